@@ -1,0 +1,11 @@
+pub mod Tables
+pub mod Format
+pub mod Reading
+pub mod Written
+pub mod Described
+pub mod Theorems
+pub mod Layouts
+pub mod Checking
+pub mod Asked
+pub mod Columns
+pub mod Commands

@@ -1,0 +1,4 @@
+pub mod Meaning
+pub mod Test
+pub mod Refusals
+pub mod Batched

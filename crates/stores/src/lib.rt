@@ -1,0 +1,5 @@
+// Stores: what tells tables, and the questions that any store answers.
+pub mod batch_store;
+pub mod batched;
+pub mod faults;
+pub mod store;

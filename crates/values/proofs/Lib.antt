@@ -1,0 +1,12 @@
+pub mod Codec
+pub mod Each
+pub mod Filled
+pub mod LawfulCells
+pub mod NameLaws
+pub mod NameTails
+pub mod NameWords
+pub mod Numbers
+pub mod Operands
+pub mod Reals
+pub mod SameNames
+pub mod Texts

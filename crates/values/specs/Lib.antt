@@ -1,0 +1,10 @@
+pub mod Bytes
+pub mod Kept
+pub mod Cells
+pub mod Codes
+pub mod Made
+pub mod Names
+pub mod Named
+pub mod Arithmetic
+pub mod Comparing
+pub mod Laws
