@@ -6,7 +6,7 @@ use mathlib.Core.Path.{_≡_, refl, sym, ap, ap₂, _∙_}
 use native.Mathlib.Omega.{arith}
 use Rattle.std.proofs.shelf.Equals.{sameBytes-decides}
 use Rattle.std.specs.Finite.{nth}
-use Rattle.std.specs.Options.{mapped}
+use Rattle.std.specs.Options.{isSome, mapped}
 use Rattle.std.specs.declared.option.Option.{Option}
 use Rattle.std.specs.declared.option.Option.the-variants.{Some, None}
 use Rattle.std.specs.shelf.Text.{sameBytes}
@@ -31,6 +31,22 @@ place-stands (t ∷ ts) n = go (sameBytes n (t .name)) (place-stands ts n)
     go : (b : Bool) → chained (placeOf n ts) (tableAt ts) ≡ lookup ts n → chained (cond b (Some 0) (mapped suc (placeOf n ts))) (tableAt (t ∷ ts)) ≡ cond b (Some (t .table)) (lookup ts n)
     go true e = refl
     go false e = chained-mapped suc (placeOf n ts) (tableAt (t ∷ ts)) ∙ e
+
+-- there is a table at the place of a name
+pub place-known : (ts : Told) (n : List ℕ) (k : ℕ) → placeOf n ts ≡ Some k → isSome (tableAt ts k) ≡ true
+unfolding placeOf
+place-known [] n k p = absurd (let z : _≡_ {A = ℕ} 0 1 = cc in omega arith)
+place-known (t ∷ ts) n k p = go (λ i. place-known ts n i) (sameBytes n (t .name)) (placeOf n ts) refl k p
+  where
+    go : ((i : ℕ) → placeOf n ts ≡ Some i → isSome (tableAt ts i) ≡ true) → (b : Bool) (o : Option ℕ) → placeOf n ts ≡ o → (k : ℕ) → cond b (Some 0) (mapped suc o) ≡ Some k → isSome (tableAt (t ∷ ts) k) ≡ true
+    go ih true o x zero p = refl
+    go ih true o x (suc k) p = absurd (let z : _≡_ {A = ℕ} 0 (suc k) = cc in omega arith)
+    go ih false None x k p = absurd (let z : _≡_ {A = ℕ} 0 1 = cc in omega arith)
+    go ih false (Some i) x zero p = absurd (let z : _≡_ {A = ℕ} 0 (suc i) = cc in omega arith)
+    go ih false (Some i) x (suc k) p =
+        let z : suc i ≡ suc k = cc in
+        let w : i ≡ k = omega arith in
+        ih k (x ∙ ap Some w)
 
 -- two names at one place are one name
 pub place-distinct : (ts : Told) (m n : List ℕ) (k : ℕ) → placeOf m ts ≡ Some k → placeOf n ts ≡ Some k → m ≡ n

@@ -1,8 +1,9 @@
+ghost use mathlib.Core.Bool.{true};
 ghost use mathlib.Core.List.{List};
 ghost use mathlib.Core.Path.{_≡_};
 ghost use Prim.Native.Nat.{ℕ};
 ghost use denote.Ref.{now};
-ghost use Rattle.std.specs.Options.{mapped};
+ghost use Rattle.std.specs.Options.{isSome, mapped};
 ghost use Rattle.std.specs.declared.option.Option.{Option};
 ghost use Rattle.std.specs.declared.option.Option.the-variants.{Some};
 ghost use Rattle.batches.specs.Asked.{chained};
@@ -32,6 +33,8 @@ pub trait Store {
     law lawful: { (s : Self) → Lawful (told s) };
 
     law named: { (s : Self) (n : List ℕ) → chained (number s n) (stands s) ≡ lookup (told s) n };
+
+    law known: { (s : Self) (n : List ℕ) (k : Self·Number) → number s n ≡ Some k → isSome (stands s k) ≡ true };
 
     law distinct: { (s : Self) (m n : List ℕ) (k : Self·Number) → number s m ≡ Some k → number s n ≡ Some k → m ≡ n };
 

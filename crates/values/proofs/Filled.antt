@@ -1,6 +1,6 @@
 -- Texts filled with spaces to sixteen bytes. Assumes nothing.
-use Prim.Native.Nat.{ℕ, zero, suc, _+_, _-_, _≤_, _<_}
-use mathlib.Core.Bool.{Bool, true, false, _&&_}
+use Prim.Native.Nat.{ℕ, zero, suc, _-_, _≤_, _<_}
+use mathlib.Core.Bool.{Bool, true, false}
 use mathlib.Core.List.{List, [], _∷_, _++_}
 use mathlib.Core.Path.{_≡_, refl, sym, ap, ap₂, subst, _∙_}
 use native.Mathlib.Omega.{arith}
@@ -9,7 +9,6 @@ use lib.ListN.{length, take, drop, replicate}
 use Rattle.std.proofs.shelf.Elements.{all-append}
 use Rattle.std.proofs.shelf.Lists.{append-nil, length-append, length-drop, length-replicate, take-all}
 use Rattle.std.proofs.shelf.Tests.{and-parts, and-from, eqb-true, leb-true}
-use Rattle.std.specs.declared.option.Option.{Option}
 use Rattle.std.specs.declared.option.Option.the-variants.{Some, None}
 use Rattle.values.specs.Bytes.{each, printable, numberOf}
 use Rattle.values.specs.Kept.{textOf}

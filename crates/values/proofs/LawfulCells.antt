@@ -1,8 +1,8 @@
 -- The cell of a value is lawful. Assumes nothing.
 use Prim.Native.Nat.{ℕ}
-use mathlib.Core.Bool.{Bool, true, _&&_}
+use mathlib.Core.Bool.{true}
 use mathlib.Core.Path.{_≡_, refl}
-use lib.Dec.{T, eqb}
+use lib.Dec.{T}
 use lib.Ieee
 use lib.Ieee.{Float, binary64}
 use lib.Ieee.Bits.{is-true}
@@ -11,7 +11,6 @@ use lib.ListN.{length}
 use mir.Syntax.{w32}
 use mir.Val.{SFits}
 use Rattle.std.proofs.shelf.Tests.{and-from}
-use Rattle.values.specs.Bytes.{each, printable}
 use Rattle.values.specs.Cells.{cellBy, cellOf, lawfulCell}
 use Rattle.values.specs.Kept.{kept, plainReal, textOf}
 use Rattle.values.specs.declared.kinds.Kind.{Kind}

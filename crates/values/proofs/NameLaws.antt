@@ -4,8 +4,8 @@ use mathlib.Core.Bool.{Bool, true, false, not, _&&_}
 use mathlib.Core.List.{List, [], _∷_}
 use mathlib.Core.Path.{_≡_, refl, sym, ap, _∙_}
 use native.Mathlib.Omega.{arith}
-use lib.Dec.{eqb, leb}
-use lib.ListN.{length, take, drop, getD, replicate}
+use lib.Dec.{eqb}
+use lib.ListN.{length, take, drop, getD}
 use Rattle.std.proofs.shelf.Lists.{length-append, length-replicate, take-all}
 use Rattle.std.proofs.shelf.Tests.{and-parts, eqb-true, eq-eqb, ne-eqb, false≢true}
 use Rattle.values.specs.Named.{nameBytes}

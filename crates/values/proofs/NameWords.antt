@@ -1,6 +1,6 @@
 -- The lawful names are the words, filled with spaces, that the rule of names admits. Assumes nothing.
-use Prim.Native.Nat.{ℕ, zero, suc, _+_, _-_, _<_, _≤_}
-use mathlib.Core.Bool.{Bool, true, false, cond, not, _&&_, _||_}
+use Prim.Native.Nat.{ℕ, zero, suc, _+_, _-_, _≤_}
+use mathlib.Core.Bool.{Bool, true, false, cond, not, _&&_}
 use mathlib.Core.List.{List, [], _∷_, _++_, map}
 use mathlib.Core.Logic.{_⊎_, inl, inr}
 use mathlib.Core.Path.{_≡_, refl, sym, ap, ap₂, subst, _∙_}
@@ -10,7 +10,7 @@ use lib.Dec.{eqb}
 use lib.ListN.{length, getD, replicate}
 use Rattle.std.proofs.shelf.Equals.{sameBytes-decides}
 use Rattle.std.proofs.shelf.Lists.{length-append, length-replicate}
-use Rattle.std.proofs.shelf.Tests.{and-parts, and-from, or-cases, or-parts, or-from, or-left, not-true, not-from-false, eqb-true, eq-eqb, false≢true}
+use Rattle.std.proofs.shelf.Tests.{and-parts, and-from, or-cases, or-parts, or-from, not-true, not-from-false, eqb-true, eq-eqb, false≢true}
 use Rattle.std.proofs.shelf.Ways.{not-from-decides, tells}
 use Rattle.std.specs.shelf.Lists.{All}
 use Rattle.std.specs.shelf.Text.{sameBytes}
@@ -19,7 +19,7 @@ use Rattle.values.specs.Laws.{IsName, Names-are-words}
 use Rattle.values.specs.Named.{trimmed}
 use Rattle.values.specs.Names.{among, filled, keywords, keywordWords, lawfulName, letter, nameByte, nameTail}
 use Rattle.values.proofs.Filled.{each-replicate, each-same}
-use Rattle.values.proofs.NameTails.{not-space, tail-more}
+use Rattle.values.proofs.NameTails.{tail-more}
 
 -- ---- a tail is the rest of a word and spaces
 

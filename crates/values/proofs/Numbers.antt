@@ -1,7 +1,7 @@
 -- Numbers as bytes, there and back. Assumes nothing.
-use mathlib.Core.Path.{_≡_, refl, sym, ap, ap₂, _∙_, subst}
+use mathlib.Core.Path.{_≡_, refl, sym, ap, ap₂, _∙_}
 use Prim.Native.Nat.{ℕ, zero, suc, _+_, _*_, _/_, _%_, _^_, _≤_, _<_}
-use native.Mathlib.Nat.{pow-succ', pow-zero, one-le-pow, mul-assoc, mul-comm, add-comm, add-mul-div-right, add-mul-mod-self-right, add-mul, div-one, mod-eq-of-lt, pow-suc, pow-le-pow-right}
+use native.Mathlib.Nat.{pow-succ', one-le-pow, mul-assoc, add-comm, add-mul-div-right, add-mul-mod-self-right, add-mul, div-one, mod-eq-of-lt, pow-suc, pow-le-pow-right}
 use native.Mathlib.Omega.{arith}
 use mathlib.Core.List.{List, [], _∷_, _++_}
 use lib.Arith.{digits-lt, digits-div, mod-mul}

@@ -1,27 +1,26 @@
 -- Reading a cell's command and operand. Assumes nothing.
-use Prim.Native.Nat.{ℕ, suc, _-_, _/_, _%_, _^_, _≤_, _<_}
-use mathlib.Core.Bool.{Bool, true, false, cond, _&&_}
+use Prim.Native.Nat.{ℕ, suc, _/_, _%_, _^_, _≤_, _<_}
+use mathlib.Core.Bool.{Bool, true, cond, _&&_}
 use mathlib.Core.List.{List, [], _∷_, _++_}
 use mathlib.Core.Path.{_≡_, refl, sym, ap, ap₂, subst, _∙_}
 use native.Mathlib.Omega.{arith}
-use lib.Dec.{eqb, leb, ltb}
 use lib.Ieee.{binary64, ofBits}
 use lib.ListN.{length, take, drop, getD}
 use mir.Syntax.{w8, w32}
 use mir.Val.{Fits, toZ}
 use Rattle.std.proofs.shelf.Elements.{all-take}
 use Rattle.std.proofs.shelf.Lists.{length-drop, length-take, take-all}
+use Rattle.std.proofs.shelf.Parts.{between-to-end}
 use Rattle.std.proofs.shelf.Tests.{ne-eqb, eq-eqb, le-leb, le-ltb}
 use Rattle.std.specs.Floats.{finite}
-use Rattle.std.specs.declared.option.Option.{Option}
+use Rattle.std.specs.shelf.Lists.{between}
 use Rattle.std.specs.declared.option.Option.the-variants.{Some, None}
 use Rattle.values.specs.Bytes.{bytesOf, numberOf, each, printable, zeros}
-use Rattle.values.specs.Cells.{Cell, null, integer, real, text, cellOf, cellBy}
+use Rattle.values.specs.Cells.{integer, real, text, cellOf, cellBy}
 use Rattle.values.specs.declared.kinds.Kind.{Kind}
 use Rattle.values.specs.declared.value.Value.{Value}
-use Rattle.values.specs.Codes.{decoded, operandCell, nullFrom, integerFrom, realFrom, textFrom, given, withoutNegativeZero}
+use Rattle.values.specs.Codes.{decoded, operandCell, integerFrom, realFrom, textFrom, given, withoutNegativeZero}
 use Rattle.values.specs.Made.{realCell, textCell}
-use Rattle.values.specs.Names.{filled}
 use Rattle.values.proofs.Filled.{filled-whole}
 use Rattle.values.proofs.Numbers.{Bytes, numberOf-lt, four-bytes, eight-bytes}
 use Rattle.values.proofs.Reals.{finite-bits}
@@ -49,10 +48,6 @@ decoded-by (b ∷ bs) h =
 pub operand-length : (bs : List ℕ) → length bs ≡ 17 → length (take 16 (drop 1 bs)) ≡ 16
 operand-length bs h = simp (length-take, length-drop) (omega arith)
 
--- the filling behind the first k bytes
-pub rest-all : (k : ℕ) (bs : List ℕ) → length bs ≡ 16 → take (16 - k) (drop k bs) ≡ drop k bs
-rest-all k bs h = take-all (16 - k) (drop k bs) (simp length-drop (omega arith))
-
 pub front-below : (k : ℕ) (bs : List ℕ) → Bytes bs → k ≤ length bs → numberOf (take k bs) < 256 ^ k
 front-below k bs t h =
     let l : length (take k bs) ≡ k = simp length-take (omega arith) in
@@ -67,18 +62,18 @@ text-whole bs h =
     ap₂ (λ (t : Bool) (ds : List ℕ). given (t && each printable bs) (text ds)) (le-leb (length bs) 16 (omega arith)) (filled-whole bs h)
 
 -- a real by its bits, with the filling seen to be zeros
-pub real-by : (bs : List ℕ) (n : ℕ) → length bs ≡ 16 → true ≡ zeros (take 8 (drop 8 bs)) → n ≡ numberOf (take 8 bs) → realFrom bs ≡ realCell (ofBits binary64 n)
+pub real-by : (bs : List ℕ) (n : ℕ) → length bs ≡ 16 → true ≡ zeros (between 8 16 bs) → n ≡ numberOf (take 8 bs) → realFrom bs ≡ realCell (ofBits binary64 n)
 real-by bs n h z e =
     ap₂ (λ (t : Bool) (k : ℕ). let x = ofBits binary64 k in given (t && finite x) (real (withoutNegativeZero x)))
-    (sym (z ∙ ap zeros (rest-all 8 bs h)))
+    (sym (z ∙ ap zeros (between-to-end bs 8 16 (omega arith))))
     (sym e)
 
 pub real-none : (n : ℕ) → 9218868437227405312 ≤ n % 9223372036854775808 → realCell (ofBits binary64 n) ≡ None
 real-none n h = ap (λ (t : Bool). given t (real (withoutNegativeZero (ofBits binary64 n)))) (finite-bits n ∙ le-ltb _ _ h)
 
-pub integer-by : (bs : List ℕ) (n : ℕ) → length bs ≡ 16 → true ≡ zeros (take 12 (drop 4 bs)) → n ≡ numberOf (take 4 bs) → integerFrom bs ≡ Some (integer (toZ w32 n))
+pub integer-by : (bs : List ℕ) (n : ℕ) → length bs ≡ 16 → true ≡ zeros (between 4 16 bs) → n ≡ numberOf (take 4 bs) → integerFrom bs ≡ Some (integer (toZ w32 n))
 integer-by bs n h z e =
-    ap₂ (λ (t : Bool) (k : ℕ). given t (integer (toZ w32 k))) (sym (z ∙ ap zeros (rest-all 4 bs h))) (sym e)
+    ap₂ (λ (t : Bool) (k : ℕ). given t (integer (toZ w32 k))) (sym (z ∙ ap zeros (between-to-end bs 4 16 (omega arith)))) (sym e)
 
 -- a value's cell, by its kind
 pub cell-at : (v : Value) (k : Kind) → v .kind ≡ k → cellOf v ≡ cellBy k (v .integer) (v .real) (v .high) (v .low)

@@ -1,8 +1,7 @@
 -- Two texts are the same where the numbers that hold them are. Assumes nothing.
 use Prim.Native.Nat.{ℕ, _^_, _<_}
-use mathlib.Core.Bool.{Bool, _&&_}
-use mathlib.Core.List.{List}
-use mathlib.Core.Path.{_≡_, refl, sym, ap, ap₂, _∙_}
+use mathlib.Core.Bool.{_&&_}
+use mathlib.Core.Path.{_≡_, sym, ap, ap₂, _∙_}
 use lib.Dec.{eqb}
 use lib.ListN.{take, drop}
 use Rattle.std.proofs.shelf.Equals.{sameBytes-decides}

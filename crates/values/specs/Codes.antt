@@ -1,10 +1,10 @@
 -- A cell's seventeen bytes: a command byte and sixteen bytes of operand. Assumes nothing.
-use Prim.Native.Nat.{ℕ, _+_}
+use Prim.Native.Nat.{ℕ}
 use mathlib.Core.Bool.{Bool, true, false, cond, _&&_}
 use mathlib.Core.List.{List, [], _∷_, _++_}
 use lib.Dec.{eqb}
 use lib.ListN.{length, take, drop, replicate}
-use lib.IntN.{ℤ, pos}
+use lib.IntN.{pos}
 use lib.Ieee.{Float, nan, inf, fin, binary64, ofBits, toBits}
 use mir.Syntax.{w32}
 use mir.Val.{ofZ, toZ}
@@ -13,6 +13,7 @@ use Rattle.std.specs.declared.option.Option.the-variants.{Some, None}
 use Rattle.std.specs.Floats.{finite}
 use Rattle.values.specs.Bytes.{bytesOf, numberOf, printable, each, zeros}
 use Rattle.values.specs.Cells.{Cell, null, integer, real, text}
+use Rattle.values.specs.declared.kinds.Kind.{Kind}
 use Rattle.values.specs.declared.kinds.ColumnType.{ColumnType}
 use Rattle.values.specs.declared.kinds.ColumnType.the-variants.{Integer, Real, Text}
 
@@ -57,6 +58,13 @@ unfoldable pub decoded : List ℕ → Option Cell
 decoded [] = None
 decoded (b ∷ bs) = cond (eqb (length bs) 16) (operandCell b bs) None
 
+-- the type of the columns that hold a kind: for a null there is none
+abbrev pub columnOf : Kind → Option ColumnType
+columnOf Kind.Null = None
+columnOf Kind.Integer = Some Integer
+columnOf Kind.Real = Some Real
+columnOf Kind.Text = Some Text
+
 -- a cell may stand in a column: it is null or of the column's type
 unfoldable pub fits : ColumnType → Cell → Bool
 fits t null = true
@@ -70,11 +78,15 @@ fits Text (integer n) = false
 fits Text (real x) = false
 fits Text (text bs) = true
 
+-- the command of the cells of a type
+abbrev pub commandOf : ColumnType → ℕ
+commandOf Integer = 0x11
+commandOf Real = 0x12
+commandOf Text = 0x13
+
 -- a command byte may stand in a column: it is a null's, or that of the column's type
 unfoldable pub byteFits : ColumnType → ℕ → Bool
-byteFits Integer b = cond (eqb b 0x10) true (eqb b 0x11)
-byteFits Real b = cond (eqb b 0x10) true (eqb b 0x12)
-byteFits Text b = cond (eqb b 0x10) true (eqb b 0x13)
+byteFits t b = cond (eqb b 0x10) true (eqb b (commandOf t))
 
 -- a column type's byte
 abbrev pub typeByte : ColumnType → ℕ

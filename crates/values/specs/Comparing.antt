@@ -3,9 +3,8 @@ use Prim.Native.Nat.{ℕ, min, max, _-_}
 use mathlib.Core.Bool.{Bool, true, false, cond}
 use mathlib.Core.List.{List, [], _∷_}
 use lib.Dec.{ltb, eqb}
-use lib.IntN.{ℤ}
 use lib.Signed.{ltZ}
-use lib.Ieee.{Float, lt}
+use lib.Ieee.{lt}
 use Rattle.std.specs.declared.cmp.Ordering.{Ordering}
 use Rattle.std.specs.declared.cmp.Ordering.the-variants.{Less as below, Equal as level, Greater as above}
 use Rattle.std.specs.declared.option.Option.{Option}

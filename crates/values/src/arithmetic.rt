@@ -1,5 +1,7 @@
 ghost use mathlib.Core.Path.{_≡_};
-ghost use Rattle.values.specs.Arithmetic.{outcomeOf, exactly, integers, reals, finiteReal, calculated, signed};
+ghost use lib.Ieee.{neg};
+ghost use lib.IntN.{negℤ};
+ghost use Rattle.values.specs.Arithmetic.{outcomeOf, exactly, ranged, integers, reals, finiteReal, calculated, signed};
 ghost use Rattle.values.specs.Cells.{cellOf};
 use crate::kinds::DataFault;
 use crate::kinds::Kind;
@@ -59,6 +61,18 @@ fn calculate_reals(operator: Operator, x: f64, y: f64) -> Result<Value, DataFaul
     }
 }
 
+fn negate_integer(n: i32) -> Result<Value, DataFault>
+    ensures { λ r. ⌜ outcomeOf r ≡ ranged (negℤ n) ⌝ }
+{
+    exact(n.checked_neg())
+}
+
+fn negate_real(x: f64) -> Result<Value, DataFault>
+    ensures { λ r. ⌜ outcomeOf r ≡ finiteReal (neg x) ⌝ }
+{
+    finite(-x)
+}
+
 impl Value {
     // The operator on two integers or two reals; null where an operand is null or the kinds differ.
     pub fn calculate(self, operator: Operator, right: Value) -> Result<Value, DataFault>
@@ -79,8 +93,8 @@ impl Value {
     {
         match (sign, self.kind) {
             (Sign::Plus, _) => Ok(self),
-            (Sign::Minus, Kind::Integer) => exact(self.integer.checked_neg()),
-            (Sign::Minus, Kind::Real) => finite(-self.real),
+            (Sign::Minus, Kind::Integer) => negate_integer(self.integer),
+            (Sign::Minus, Kind::Real) => negate_real(self.real),
             (Sign::Minus, _) => Ok(Value::null()),
         }
     }

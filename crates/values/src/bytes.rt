@@ -17,11 +17,17 @@ pub(crate) fn all_are(byte: u8, bytes: &[u8]) -> bool
     true
 }
 
+fn is_printable(b: u8) -> bool
+    ensures { λ r. ⌜ r ≡ printable b ⌝ }
+{
+    matches!(b, b' '..=b'~')
+}
+
 pub(crate) fn all_printable(bytes: &[u8]) -> bool
     ensures { λ r. ⌜ r ≡ each printable (now (bytes .entry)) ⌝ }
 {
     for b in bytes {
-        if *b < b' ' || *b > b'~' {
+        if !is_printable(*b) {
             return false;
         }
     }

@@ -4,8 +4,10 @@ ghost use Prim.Native.Nat.{_≤_};
 ghost use lib.Dec.{eqb};
 ghost use lib.ListN.{length};
 ghost use Rattle.std.specs.Options.{mapped};
+ghost use Rattle.std.specs.shelf.Lists.{between};
+ghost use Rattle.values.specs.Bytes.{zeros};
 ghost use Rattle.values.specs.Cells.{Cell, cellOf};
-ghost use Rattle.values.specs.Codes.{encoded, decoded, nullFrom, integerFrom, realFrom, textFrom, fits};
+ghost use Rattle.values.specs.Codes.{encoded, decoded, nullFrom, integerFrom, realFrom, fits};
 ghost use Rattle.values.specs.Kept.{plainReal, textOf};
 ghost use Rattle.values.specs.Laws.{Decodes-what-is-encoded, Encodes-what-is-decoded};
 use crate::bytes::all_are;
@@ -29,11 +31,19 @@ fn read_null(operand: &[u8]) -> Option<Value>
     }
 }
 
+// Whether an operand has only zeros from an index on, up to its last byte.
+fn zeros_from(operand: &[u8], start: usize) -> bool
+    requires { ⌜ length (now operand) ≡ 16 ⌝ ∗ ⌜ start ≤ 8 ⌝ }
+    ensures { λ r. ⌜ r ≡ zeros (between start 16 (now (operand .entry))) ⌝ }
+{
+    all_are(0, &operand[start..16])
+}
+
 fn read_integer(operand: &[u8]) -> Option<Value>
     requires { ⌜ length (now operand) ≡ 16 ⌝ }
     ensures { λ r. ⌜ mapped cellOf r ≡ integerFrom (now (operand .entry)) ⌝ }
 {
-    if !all_are(0, &operand[4..16]) {
+    if !zeros_from(operand, 4) {
         return None;
     }
     let bits = number(&operand[0..4]) as u32;
@@ -45,7 +55,7 @@ fn read_real(operand: &[u8]) -> Option<Value>
     requires { ⌜ length (now operand) ≡ 16 ⌝ }
     ensures { λ r. ⌜ mapped cellOf r ≡ realFrom (now (operand .entry)) ⌝ }
 {
-    if !all_are(0, &operand[8..16]) {
+    if !zeros_from(operand, 8) {
         return None;
     }
     let bits = number(&operand[0..8]);
@@ -101,16 +111,15 @@ impl Value {
     pub fn fits(self, column: ColumnType) -> bool
         ensures { λ r. ⌜ r ≡ fits column (cellOf self) ⌝ }
     {
-        match self.kind {
-            Kind::Null => true,
-            Kind::Integer => column == ColumnType::Integer,
-            Kind::Real => column == ColumnType::Real,
-            Kind::Text => column == ColumnType::Text,
+        match self.kind.column() {
+            None => true,
+            Some(own) => column == own,
         }
     }
 
     fn to_bytes(self) -> [u8; 17]
-        ensures { λ r. ⌜ r ≡ encoded (cellOf self) ⌝ }
+        ensures answer { λ r. ⌜ r ≡ encoded (cellOf self) ⌝ }
+        ensures back { λ _. ⌜ Decodes-what-is-encoded ⌝ }
     {
         match self.kind {
             Kind::Null => [0x10, 0, 0, 0, 0, 0, 0, 0, 0, 0, 0, 0, 0, 0, 0, 0, 0],
@@ -127,10 +136,11 @@ impl Value {
         ensures area { λ _. ⌜ now (out .exit) ≡ cond (eqb (length (now (out .entry))) 17) (encoded (cellOf self)) (now (out .entry)) ⌝ }
         ensures back { λ _. ⌜ Decodes-what-is-encoded ⌝ }
     {
+        let bytes = self.to_bytes();
         if out.len() != 17 {
             return false;
         }
-        out.copy_from_slice(&self.to_bytes());
+        out.copy_from_slice(&bytes);
         true
     }
 }

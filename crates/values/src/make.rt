@@ -1,8 +1,10 @@
+ghost use mathlib.Core.Bool.{true};
 ghost use mathlib.Core.Path.{_≡_};
-ghost use lib.IntN.{ℤ};
+ghost use Rattle.std.specs.Floats.{finite};
 ghost use Rattle.std.specs.Options.{mapped};
 ghost use Rattle.values.specs.Cells.{Cell, cellOf};
 ghost use Rattle.values.specs.Codes.{withoutNegativeZero};
+ghost use Rattle.values.specs.Kept.{plainReal};
 ghost use Rattle.values.specs.Made.{realCell, textCell};
 use crate::bytes::all_printable;
 use crate::bytes::fill;
@@ -12,7 +14,8 @@ use crate::value::Value;
 
 // Zero for negative zero, and any other real as it is.
 pub(crate) fn without_negative_zero(x: f64) -> f64
-    ensures { λ r. ⌜ r ≡ withoutNegativeZero x ⌝ }
+    ensures answer { λ r. ⌜ r ≡ withoutNegativeZero x ⌝ }
+    ensures plain { λ r. ⌜ (finite x ≡ true → plainReal r ≡ true) ⌝ }
 {
     if x == 0.0 { 0.0 } else { x }
 }

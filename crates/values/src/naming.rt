@@ -1,4 +1,6 @@
+ghost use mathlib.Core.Bool.{_&&_};
 ghost use mathlib.Core.Path.{_≡_};
+ghost use lib.Dec.{eqb};
 ghost use Rattle.std.specs.Options.{mapped};
 ghost use Rattle.std.specs.shelf.Text.{sameBytes};
 ghost use Rattle.values.specs.Laws.{Names-are-words};
@@ -81,13 +83,18 @@ impl Name {
     }
 }
 
+fn both_same(high: u64, low: u64, other_high: u64, other_low: u64) -> bool
+    ensures { λ r. ⌜ r ≡ (eqb high «other_high» && eqb low «other_low») ⌝ }
+{
+    high == other_high && low == other_low
+}
+
 // Two names are the same where their bytes are, which the numbers tell.
 pub impl PartialEq<Name> for Name as NameEq {
     ghost equals = { λ a b r. r ≡ sameBytes (nameBytes a) (nameBytes b) };
 
     fn eq(&self, other: &Name) -> bool {
-        let same_end = self.low == other.low;
-        self.high == other.high && same_end
+        both_same(self.high, self.low, other.high, other.low)
     }
 }
 

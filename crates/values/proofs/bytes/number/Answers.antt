@@ -1,9 +1,6 @@
-use mathlib.Core.Path.{_≡_, refl, sym, ap, _∙_}
-use Prim.Native.Nat.{_+_, _*_, _<_}
+use mathlib.Core.Path.{refl, ap, _∙_}
 use native.Mathlib.Omega.{arith}
 use lib.Dec.{lit<}
-use lib.ListN.{getD, take}
-use mir.Val.{Fits}
 use Rattle.std.proofs.shelf.Lists.{take-all}
 use Rattle.values.specs.Bytes.{numberOf}
 use Rattle.values.proofs.Numbers.{numberOf-more, more-below, more-fits}

@@ -1,12 +1,11 @@
-use mathlib.Core.List.{List, [], _∷_, _++_}
-use mathlib.Core.Path.{_≡_, sym, ap, _∙_}
+use mathlib.Core.List.{List, _∷_, _++_}
+use mathlib.Core.Path.{ap, _∙_}
 use Prim.Native.Nat.{ℕ}
 use lib.ListN.{replicate}
 use Rattle.values.specs.Bytes.{bytesOf}
 use Rattle.values.specs.Codes.{encoded}
-use borrow.Author.Needs.{needs}
 use mir.Syntax.{w32}
-use mir.Val.{SFits, ofZ}
+use mir.Val.{ofZ}
 use Rattle.std.proofs.shelf.Signed.{toZ-ofZ}
 use Rattle.values.proofs.Operands.{four-array}
 use Rattle.values.proofs.cells.integer_bytes.Needs as need

@@ -1,9 +1,7 @@
-use mathlib.Core.Path.{_≡_, sym, ap, subst, _∙_}
-use Prim.Native.Nat.{ℕ, _^_, _<_}
+use mathlib.Core.Path.{sym, ap, subst, _∙_}
+use Prim.Native.Nat.{_^_, _<_}
 use native.Mathlib.Omega.{arith}
-use lib.IntN.{ℤ}
 use mir.Syntax.{w32}
-use mir.Val.{toZ, ofZ, SFits}
 use Rattle.std.proofs.shelf.Signed.{toZ-ofZ}
 use Rattle.std.specs.declared.option.Option.the-variants.{Some}
 use Rattle.values.specs.Cells.{integer}
@@ -17,4 +15,4 @@ cast-bits c =
 pub returns : need.returns
 returns c =
     ap Some (c .integer .ensures ∙ ap integer (toZ-ofZ w32 (c .cast-signed .result) (record { sfits = c .cast-signed .ok }) ∙ c .cast-signed .ensures)) ∙
-    sym (integer-by (c .args .operand .now) (c .number-bits .result) (c .pre) (c .if-not-all-are .ensures tt) (c .number-bits .ensures))
+    sym (integer-by (c .args .operand .now) (c .number-bits .result) (c .pre) (c .if-not-zeros-from .ensures tt) (c .number-bits .ensures))

@@ -1,8 +1,7 @@
-use mathlib.Core.List.{List, [], _∷_, _++_}
-use mathlib.Core.Path.{_≡_, sym, ap, _∙_}
+use mathlib.Core.List.{List, _∷_}
+use mathlib.Core.Path.{ap}
 use Prim.Native.Nat.{ℕ}
 use lib.ListN.{replicate}
-use Rattle.values.specs.Bytes.{bytesOf}
 use Rattle.values.specs.Codes.{encoded}
 use lib.Ieee.{binary64, toBits}
 use Rattle.values.proofs.Operands.{eight-array}

@@ -1,7 +1,6 @@
 use mathlib.Core.List.{List, [], _∷_, _++_}
-use mathlib.Core.Path.{_≡_, sym, ap, _∙_}
+use mathlib.Core.Path.{ap, _∙_}
 use Prim.Native.Nat.{ℕ}
-use lib.ListN.{replicate}
 use Rattle.values.specs.Bytes.{bytesOf}
 use Rattle.values.specs.Codes.{encoded}
 use Rattle.std.proofs.shelf.Lists.{append-nil}

@@ -1,9 +1,5 @@
-use mathlib.Core.Path.{_≡_, sym}
 use native.Mathlib.Omega.{arith}
 use Rattle.std.proofs.shelf.Ways.{tells}
-use Rattle.std.specs.declared.cmp.Ordering.{Ordering}
-use Rattle.values.specs.Comparing.{byBytes}
-use Rattle.values.specs.Kept.{textOf}
 use Rattle.values.proofs.Texts.{texts-in-order}
 use Rattle.values.proofs.comparing.order_of_texts.Needs as need
 

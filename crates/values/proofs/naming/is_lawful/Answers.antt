@@ -1,7 +1,7 @@
 use mathlib.Core.Bool.{Bool, not, _&&_}
-use mathlib.Core.Path.{_≡_, sym, ap, ap₂, _∙_}
-use lib.ListN.{take, drop, getD}
-use Rattle.values.specs.Names.{among, keywords, letter, nameTail}
+use mathlib.Core.Path.{sym, ap, ap₂, _∙_}
+use lib.ListN.{take, drop}
+use Rattle.values.specs.Names.{among, keywords, nameTail}
 use Rattle.values.proofs.NameLaws.{lawful-by, unlawful-length}
 use Rattle.values.proofs.naming.is_lawful.Needs as need
 use Rattle.values.proofs.naming.is_lawful.Needs.{then-bytes-ne16·by·then-bytes-ne16, then-bytes-ne16·by·else-bytes-ne16·then-not-is-ascii-lowercase}

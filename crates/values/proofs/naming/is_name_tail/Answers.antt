@@ -1,4 +1,4 @@
-use mathlib.Core.Path.{_≡_, sym, ap, _∙_}
+use mathlib.Core.Path.{sym, ap, _∙_}
 use Rattle.std.proofs.shelf.Lists.{take-rest}
 use Rattle.values.specs.Bytes.{spaces}
 use Rattle.values.proofs.NameTails.{loop-more, loop-ends, loop-done}

@@ -2,18 +2,10 @@ use borrow.Author.Needs.{needs}
 use Rattle.values.specs.Codes.{fits}
 use Rattle.values.proofs.value.Value.fits.Needs as need
 
-pub returns-in-Null : need.returns-in-Null
+pub returns-in-None : need.returns-in-None
 unfolding fits
-returns-in-Null c = search needs
+returns-in-None c = search needs
 
-pub returns-in-Integer : need.returns-in-Integer
+pub returns-in-Some : need.returns-in-Some
 unfolding fits
-returns-in-Integer c = search needs
-
-pub returns-in-Real : need.returns-in-Real
-unfolding fits
-returns-in-Real c = search needs
-
-pub returns-in-Text : need.returns-in-Text
-unfolding fits
-returns-in-Text c = search needs
+returns-in-Some c = search needs
