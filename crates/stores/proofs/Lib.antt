@@ -1,3 +1,9 @@
+pub mod Agreeing
+pub mod AgreeingFirsts
+pub mod AgreeingKept
+pub mod AgreeingRows
 pub mod Found
 pub mod Loaded
+pub mod NamesWhole
+pub mod Numbered
 pub mod Tested

@@ -2,3 +2,5 @@ pub mod Meaning
 pub mod Test
 pub mod Refusals
 pub mod Batched
+pub mod Series
+pub mod Agreeing

@@ -2,4 +2,6 @@
 pub mod batch_store;
 pub mod batched;
 pub mod faults;
+pub mod series;
+pub mod series_store;
 pub mod store;
