@@ -1,5 +1,5 @@
-// Counts what a batch file holds: a line for each table, with its rows and columns, and a total.
-// A file that is against the rules gives the one line of its refusal.
+// Counts what a batch file holds, or what two hold as a pair: a line for each table, with its rows
+// and columns, and a total. A file that is against the rules gives the one line of its refusal.
 use batches::checking::LONGEST;
 use std::env;
 use std::error::AnyError;
@@ -12,6 +12,9 @@ use stores::batch_store::BatchStore;
 use stores::batched::BatchStoreLists;
 use stores::batched::BatchStoreTells;
 use stores::faults::LoadError;
+use stores::pair::Pair;
+use stores::paired::PairLists;
+use stores::paired::PairTells;
 use stores::store::Listed;
 use stores::store::Store;
 use values::kinds::ColumnType;
@@ -56,14 +59,17 @@ fn print_name(rt: &LibcRuntime, name: Name) -> io::Result<()> {
     Ok(())
 }
 
-// One table's line; answers its rows.
+// One table's line; answers its rows, of which a table that is too long counts none.
 fn print_table<S: Listed>(rt: &LibcRuntime, store: &S, name: Name) -> io::Result<usize> {
     let Some(table) = store.find(name) else {
         return Ok(0);
     };
     print_name(rt, name)?;
-    let rows = store.count(table).unwrap_or(0);
-    print!(rt, ": {rows} rows")?;
+    let count = store.count(table);
+    match count {
+        Some(rows) => print!(rt, ": {rows} rows")?,
+        None => print!(rt, ": too long")?,
+    }
     for i in 0..8 {
         let Some(column) = store.column(table, i) else {
             break;
@@ -74,7 +80,7 @@ fn print_table<S: Listed>(rt: &LibcRuntime, store: &S, name: Name) -> io::Result
         print!(rt, " {word}")?;
     }
     println!(rt)?;
-    Ok(rows)
+    Ok(count.unwrap_or(0))
 }
 
 // A line for each table and the line of the total.
@@ -91,26 +97,50 @@ fn print_tables<S: Listed>(rt: &LibcRuntime, store: &S) -> io::Result<()> {
     println!(rt, "{tables} tables, {rows} rows")
 }
 
-fn run(rt: &LibcRuntime, path: &str) -> Result<(), AnyError> {
+// The store of a batch file; none where the batch is refused, once the line of its refusal is
+// printed.
+fn load(rt: &LibcRuntime, path: &str) -> Result<Option<BatchStore>, AnyError> {
     let batch = read_batch(rt, path)?;
     let mut store = BatchStore::new(rt.alloc());
     match store.load(rt.alloc(), &batch) {
-        Ok(()) => print_tables(rt, &store)?,
+        Ok(()) => Ok(Some(store)),
         Err(LoadError::Refused(fault)) => {
             let number = fault.number();
             let place = fault.place();
             println!(rt, "refused store {number} {place}")?;
+            Ok(None)
         }
-        Err(LoadError::OutOfMemory) => return Err("no memory for the batch".into()),
+        Err(LoadError::OutOfMemory) => Err("no memory for the batch".into()),
     }
+}
+
+fn count_one(rt: &LibcRuntime, path: &str) -> Result<(), AnyError> {
+    let Some(store) = load(rt, path)? else {
+        return Ok(());
+    };
+    print_tables(rt, &store)?;
+    Ok(())
+}
+
+fn count_pair(rt: &LibcRuntime, first: &str, second: &str) -> Result<(), AnyError> {
+    let Some(first) = load(rt, first)? else {
+        return Ok(());
+    };
+    let Some(second) = load(rt, second)? else {
+        return Ok(());
+    };
+    print_tables(rt, &Pair::new(first, second))?;
     Ok(())
 }
 
 fn main(rt: LibcRuntime) -> Result<(), AnyError> {
     let mut args = env::args(&rt)?;
     let _program = args.next();
+    let Some(first) = args.next() else {
+        return rt.report(count_one(&rt, DEFAULT_FILE));
+    };
     match args.next() {
-        Some(path) => rt.report(run(&rt, path.as_str())),
-        None => rt.report(run(&rt, DEFAULT_FILE)),
+        Some(second) => rt.report(count_pair(&rt, first.as_str(), second.as_str())),
+        None => rt.report(count_one(&rt, first.as_str())),
     }
 }

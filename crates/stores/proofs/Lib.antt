@@ -3,7 +3,12 @@ pub mod AgreeingFirsts
 pub mod AgreeingKept
 pub mod AgreeingRows
 pub mod Found
+pub mod Headings
+pub mod JoinedRows
 pub mod Loaded
+pub mod NamesInOrder
 pub mod NamesWhole
 pub mod Numbered
+pub mod PairNumbers
+pub mod Pairing
 pub mod Tested

@@ -4,3 +4,4 @@ pub mod Refusals
 pub mod Batched
 pub mod Series
 pub mod Agreeing
+pub mod Paired
