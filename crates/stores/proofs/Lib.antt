@@ -11,4 +11,5 @@ pub mod NamesWhole
 pub mod Numbered
 pub mod PairNumbers
 pub mod Pairing
+pub mod Placed
 pub mod Tested

@@ -5,3 +5,4 @@ pub mod Batched
 pub mod Series
 pub mod Agreeing
 pub mod Paired
+pub mod Places
