@@ -1,4 +1,6 @@
 // Batches: tables as bytes, checked, read and written.
+#![tactic(auto)]
+
 mod checker;
 pub mod checking;
 pub mod columns;

@@ -1,4 +1,6 @@
 // Batches of many rows: each is written, checked and read back, and a line says what was found.
+#![tactic(auto)]
+
 use anyhow::anyhow;
 use batches::checking::check;
 use batches::columns::Column;

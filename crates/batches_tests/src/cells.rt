@@ -2,6 +2,7 @@
 use crate::pieces::*;
 use std::alloc::Global;
 use std::process::Abort;
+use std::test::Fail;
 
 // A batch of a table with one column of the type, and one cell; the cell's command is at 35.
 fn one_cell(heap: Global, holds: u8, cell: &[u8]) -> Result<Vec<u8>, Fail> {
@@ -153,8 +154,9 @@ fn rows_of_two(rt: HostRuntime) -> Result<(), Fail> {
     assert_eq!(rt; catalog.rows(0), Some(2));
     let mut written = [0; 17];
     catalog.cell(&bytes, 0, 1, 0).ok_or(())?.write(&mut written);
-    check(&written[0..17] == SEVEN)?;
+    assert!(rt; &written[0..17] == SEVEN);
     catalog.cell(&bytes, 0, 1, 1).ok_or(())?.write(&mut written);
-    check(&written[0..17] == WORD)?;
-    check(catalog.cell(&bytes, 0, 2, 0).is_none() && catalog.cell(&bytes, 0, 0, 2).is_none())
+    assert!(rt; &written[0..17] == WORD);
+    assert!(rt; catalog.cell(&bytes, 0, 2, 0).is_none() && catalog.cell(&bytes, 0, 0, 2).is_none());
+    Ok(())
 }

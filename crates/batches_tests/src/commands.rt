@@ -2,6 +2,7 @@
 use crate::pieces::*;
 use std::alloc::Global;
 use std::process::Abort;
+use std::test::Fail;
 
 // What may follow the bytes: each byte that is listed begins a command, and the batch is then
 // unfinished. An end is whole. Any other byte is refused at its own place.
@@ -14,15 +15,15 @@ fn may_follow(
 ) -> Result<(), Fail> {
     let mut bytes = joined(heap, before)?;
     let place = bytes.len();
-    check(place < 1000)?;
+    assert!(rt; place < 1000);
     for byte in 0..=255u8 {
         bytes.push(byte)?;
         if byte == 0x7f && may_end {
             let _ = taken(&bytes)?;
         } else if listed.contains(&byte) {
-            refused(rt, &bytes, place + 1).note(format_args!("byte {byte}"))?;
+            assert_eq!(rt; place_refused(&bytes)?, place + 1, "byte {byte}");
         } else {
-            refused(rt, &bytes, place).note(format_args!("byte {byte}"))?;
+            assert_eq!(rt; place_refused(&bytes)?, place, "byte {byte}");
         }
         let _ = bytes.pop();
     }
@@ -61,16 +62,16 @@ fn cut_short(
 ) -> Result<(), Fail> {
     let mut bytes = joined(heap, before)?;
     let place = bytes.len();
-    check(place < 1000)?;
+    assert!(rt; place < 1000);
     bytes.push(byte)?;
     for given in 1..width {
         let len = bytes.len();
-        refused(rt, &bytes, if may { len } else { place }).note(format_args!(
-            "byte {byte}, {given}"
-        ))?;
+        let wanted = if may { len } else { place };
+        assert_eq!(rt; place_refused(&bytes)?, wanted, "byte {byte}, {given}");
         bytes.push(0xff)?;
     }
-    refused(rt, &bytes, place).note(format_args!("byte {byte}, whole"))
+    assert_eq!(rt; place_refused(&bytes)?, place, "byte {byte}, whole");
+    Ok(())
 }
 
 #[test]

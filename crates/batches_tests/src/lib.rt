@@ -1,4 +1,6 @@
 // Tests of batches: each expected place and value is by the rules of the format.
+#![tactic(auto)]
+
 #[cfg(test)]
 mod cells;
 #[cfg(test)]

@@ -37,15 +37,18 @@ pub(crate) fn taken(bytes: &[u8]) -> Result<Catalog, Fail> {
     }
 }
 
+// The place at which the batch is refused.
+pub(crate) fn place_refused(bytes: &[u8]) -> Result<usize, Fail> {
+    match check(bytes) {
+        Ok(_) => Err(Fail::new("taken, not refused")),
+        Err(fault) => Ok(fault.place),
+    }
+}
+
 // The batch is refused, at this place.
 pub(crate) fn refused(rt: &impl Abort, bytes: &[u8], place: usize) -> Result<(), Fail> {
-    match check(bytes) {
-        Ok(_) => Err(Fail::new(format_args!("taken, not refused at {place}"))),
-        Err(fault) => {
-            assert_eq!(rt; fault.place, place);
-            Ok(())
-        },
-    }
+    assert_eq!(rt; place_refused(bytes)?, place);
+    Ok(())
 }
 
 // The batch of these pieces is refused, at this place.
@@ -56,5 +59,5 @@ pub(crate) fn refused_pieces(
     place: usize,
 ) -> Result<(), Fail> {
     let bytes = joined(heap, pieces)?;
-    refused(rt, &bytes, place).note(format_args!("place {place}"))
+    refused(rt, &bytes, place)
 }

@@ -2,6 +2,7 @@
 use crate::pieces::*;
 use batches::columns::Column;
 use std::alloc::Global;
+use std::test::Fail;
 use values::kinds::ColumnType;
 use values::name::Name;
 
@@ -24,8 +25,9 @@ fn empty_batch(rt: HostRuntime) -> Result<(), Fail> {
     assert_eq!(rt; catalog.len(), 0);
     assert_eq!(rt; catalog.rows(0), None);
     assert_eq!(rt; catalog.width(0), None);
-    check(catalog.name(&[], 0).is_none() && catalog.column(&[], 0, 0).is_none())?;
-    check(catalog.cell(&[], 0, 0, 0).is_none())
+    assert!(rt; catalog.name(&[], 0).is_none() && catalog.column(&[], 0, 0).is_none());
+    assert!(rt; catalog.cell(&[], 0, 0, 0).is_none());
+    Ok(())
 }
 
 #[test]
@@ -39,11 +41,11 @@ fn eight_tables_and_nine(rt: HostRuntime) -> Result<(), Fail> {
     assert_eq!(rt; catalog.find(&eight, none), None);
     let name = catalog.name(&eight, 7).ok_or(())?;
     assert_eq!(rt; name.to_bytes(), *b"h               ");
-    check(catalog.name(&eight, 8).is_none())?;
+    assert!(rt; catalog.name(&eight, 8).is_none());
     // A ninth is refused at its command, also where it is cut short.
     let nine = small_tables(rt.alloc(), 9)?;
     refused(&rt, &nine, 288)?;
-    check(nine.len() == 324)?;
+    assert!(rt; nine.len() == 324);
     refused(&rt, &nine[0..289], 288)
 }
 
@@ -54,7 +56,7 @@ fn eight_columns_and_nine(rt: HostRuntime) -> Result<(), Fail> {
         bytes.extend_from_slice(REALS)?;
         bytes.extend_from_slice(TEXTS)?;
     }
-    refused(&rt, &bytes, 161).note("eight columns and no end")?;
+    assert_eq!(rt; place_refused(&bytes)?, 161, "eight columns and no end");
     bytes.push(0x7f)?;
     let catalog = taken(&bytes)?;
     assert_eq!(rt; catalog.width(0), Some(8));
@@ -79,12 +81,17 @@ fn eight_columns_and_nine(rt: HostRuntime) -> Result<(), Fail> {
             }
         );
     }
-    check(catalog.column(&bytes, 0, 8).is_none() && catalog.column(&bytes, 1, 0).is_none())?;
+    assert!(rt; catalog.column(&bytes, 0, 8).is_none() && catalog.column(&bytes, 1, 0).is_none());
     let _ = bytes.pop();
     bytes.extend_from_slice(INTEGERS)?;
-    refused(&rt, &bytes, 161).note("nine columns")?;
-    check(bytes.len() == 179)?;
-    refused(&rt, &bytes[0..162], 161).note("a ninth column cut short")
+    assert_eq!(rt; place_refused(&bytes)?, 161, "nine columns");
+    assert!(rt; bytes.len() == 179);
+    assert_eq!(rt;
+        place_refused(&bytes[0..162])?,
+        161,
+        "a ninth column cut short"
+    );
+    Ok(())
 }
 
 #[test]

@@ -4,6 +4,7 @@ use batches::columns::Column;
 use batches::writer::{BatchWriter, TableData};
 use batches::writing::{write_column, write_table, write_tables};
 use std::alloc::{AllocError, Global};
+use std::test::Fail;
 use values::kinds::ColumnType;
 use values::name::Name;
 use values::value::Value;
@@ -46,7 +47,7 @@ fn command_by_command(rt: HostRuntime) -> Result<(), Fail> {
     let bytes = writer.finish();
     let null = b"\x10\0\0\0\0\0\0\0\0\0\0\0\0\0\0\0\0";
     let expected = joined(rt.alloc(), &[TABLE, INTEGERS, SEVEN, null, END])?;
-    check(bytes == expected)?;
+    assert!(rt; bytes == expected);
     assert_eq!(rt; taken(&bytes)?.rows(0), Some(2));
     Ok(())
 }
@@ -90,8 +91,9 @@ fn whole_tables(rt: HostRuntime) -> Result<(), Fail> {
             TABLE, TEXTS, INTEGERS, WORD, SEVEN, END, other, INTEGERS, END,
         ],
     )?;
-    check(bytes == expected)?;
+    assert!(rt; bytes == expected);
     assert_eq!(rt; taken(&bytes)?.len(), 2);
     let none = Vec::new(heap);
-    check(write_tables(heap, &none)?.is_empty())
+    assert!(rt; write_tables(heap, &none)?.is_empty());
+    Ok(())
 }

@@ -1,5 +1,7 @@
 // Counts what a batch file holds, or what two hold as a pair: a line for each table, with its rows
 // and columns, and a total. A file that is against the rules gives the one line of its refusal.
+#![tactic(auto)]
+
 use anyhow::anyhow;
 use batches::checking::LONGEST;
 use std::fs::File;

@@ -1,4 +1,6 @@
 // The reader: from the text of a query to its tree.
+#![tactic(auto)]
+
 pub mod numbers;
 pub mod scanning;
 pub mod word;

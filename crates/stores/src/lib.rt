@@ -1,4 +1,6 @@
 // Stores: what tells tables, and the questions that any store answers.
+#![tactic(auto)]
+
 pub mod batch_store;
 pub mod batched;
 pub mod faults;

@@ -1,6 +1,7 @@
 // What a batch store tells, and what a refused load leaves.
 use crate::pieces::*;
 use std::alloc::AllocError;
+use std::test::Fail;
 use stores::batch_store::BatchStore;
 use stores::faults::{LoadError, StoreFault};
 use stores::store::{Listed, Store};

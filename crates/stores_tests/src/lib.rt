@@ -1,4 +1,6 @@
 // Tests of stores: each expected answer is by what the store is said to tell.
+#![tactic(auto)]
+
 #[cfg(test)]
 mod batch_stores;
 #[cfg(test)]

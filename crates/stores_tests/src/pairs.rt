@@ -3,6 +3,7 @@ use crate::pieces::*;
 use batches::columns::Column;
 use batches::writer::BatchWriter;
 use std::alloc::{AllocError, Global};
+use std::test::Fail;
 use stores::batch_store::BatchStore;
 use stores::pair::Pair;
 use stores::store::{Listed, Store};

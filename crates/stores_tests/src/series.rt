@@ -1,5 +1,6 @@
 // What a series store tells.
 use crate::pieces::*;
+use std::test::Fail;
 use stores::batch_store::BatchStore;
 use stores::faults::StoreFault;
 use stores::series_store::{OnlyTable, SeriesStore};

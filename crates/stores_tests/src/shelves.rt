@@ -4,6 +4,7 @@ use batches::columns::Column;
 use batches::writer::BatchWriter;
 use std::alloc::{AllocError, Global};
 use std::process::Abort;
+use std::test::Fail;
 use stores::batch_store::BatchStore;
 use stores::faults::{Layer, ShelfFault};
 use stores::pair::Pair;

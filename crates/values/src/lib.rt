@@ -1,5 +1,7 @@
 // The values that a table's cells hold: their arithmetic, comparison and encoding, and the names of
 // tables and columns.
+#![tactic(auto)]
+
 mod arithmetic;
 mod bytes;
 mod cells;

@@ -1,5 +1,7 @@
 // Examples of what the values of cells do, seen from outside their crate: through the bytes that
 // they are written as, and through comparisons.
+#![tactic(auto)]
+
 #[cfg(test)]
 mod tests {
     use std::test::Fail;

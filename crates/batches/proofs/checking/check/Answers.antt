@@ -31,20 +31,20 @@ step-requires c =
 
 pub loop-checker-preserved : goal.loop-checker-preserved
 loop-checker-preserved c =
-    let h = c.in-ok-step.ensures in
+    let h = c.in_ok-step.ensures in
     (h.3, going_on c.args.bytes.now c.loop-checker.checker c.loop-checker-test.true c.loop-checker.invariant.1 c.step.new.self h.0 h.1 h.2)
 
 pub loop-checker-smaller : goal.loop-checker-smaller
-loop-checker-smaller c = let h = c.in-ok-step.ensures in omega arith
+loop-checker-smaller c = let h = c.in_ok-step.ensures in omega arith
 
-pub returns-in-err-step : goal.returns-in-err-step
-returns-in-err-step c =
-    let p = err_from_is_err_and c.from-residual.result c.from-residual.ensures.1 in
+pub returns-in_err-step : goal.returns-in_err-step
+returns-in_err-step c =
+    let p = err_from_is_err_and c.from_residual.result c.from_residual.ensures.1 in
     record {
       answer =
           ap (reading_by c.args.bytes.now) p.1 ∙
           (ap (λ (f : BatchFault). refused f.place) p.2 ∙
-          (stopped c.args.bytes.now c.loop-checker.checker c.loop-checker-test.true c.loop-checker.invariant.1 _ c.in-err-step.ensures ∙ reading_run c.args.bytes.now c.if-bytes-gt-LONGEST.false));
+          (stopped c.args.bytes.now c.loop-checker.checker c.loop-checker-test.true c.loop-checker.invariant.1 _ c.in_err-step.ensures ∙ reading_run c.args.bytes.now c.if-bytes-gt-LONGEST.false));
       exactly = reads_exactly;
       one = one_reading;
       refused = refused_there;

@@ -9,11 +9,11 @@ use Rattle.batches.proofs.writing.write_tables.Goals as goal
 
 pub loop-table-preserved : goal.loop-table-preserved
 loop-table-preserved c =
-    one_more (λ d. table_bytes (table_of d)) c.args.tables.now [] c.loop-table.table-index c.table-item.result c.loop-table-test.true c.table-item.is c.loop-table.invariant c.in-ok-whole-table.ensures
+    one_more (λ d. table_bytes (table_of d)) c.args.tables.now [] c.loop-table.table-index c.table-item.result c.loop-table-test.true c.table-item.is c.loop-table.invariant c.in_ok-whole_table.ensures
 
-pub returns-in-err-whole-table : goal.returns-in-err-whole-table
-returns-in-err-whole-table c =
-    let p = err_from_is_err_and c.from-residual.result c.from-residual.ensures.1 in
+pub returns-in_err-whole_table : goal.returns-in_err-whole_table
+returns-in_err-whole_table c =
+    let p = err_from_is_err_and c.from_residual.result c.from_residual.ensures.1 in
     record { batch = rw p.1 tt; loads = written_loads decoded_encoded }
 
 pub returns : goal.returns

@@ -10,4 +10,4 @@ returns-then-text-at-ne46 c = point_not c.args.text.now c.args.at c.if-text-at-n
 
 pub returns : goal.returns
 returns c =
-    point_is c.args.text.now c.args.at c.is-ascii-digit.result c.if-text-at-ne46.false c.is-ascii-digit.ensures.value
+    point_is c.args.text.now c.args.at c.is_ascii_digit.result c.if-text-at-ne46.false c.is_ascii_digit.ensures.value

@@ -7,33 +7,33 @@ use Rattle.reader.specs.Words.{found, keyword_of, name}
 use Rattle.reader.proofs.NamesScanned.{name_long, name_short, run_begins, run_lawful}
 use Rattle.reader.proofs.scanning.name_word.Goals as goal
 
-pub overflow-sub-end : goal.overflow-sub-end
-overflow-sub-end c = let b = run_begins in_word c.args.text.now c.args.at in omega (arith, c.requires)
+pub overflow_sub-end : goal.overflow_sub-end
+overflow_sub-end c = let b = run_begins in_word c.args.text.now c.args.at in omega (arith, c.requires)
 
 pub returns-then-end-at-gt16 : goal.returns-then-end-at-gt16
 returns-then-end-at-gt16 c = name_long c.args.text.now c.args.at c.args.end c.if-end-at-gt16.true
 
-pub small-letters-letters-requires : goal.small-letters-letters-requires
-small-letters-letters-requires c =
+pub small_letters-letters-requires : goal.small_letters-letters-requires
+small_letters-letters-requires c =
     let b = run_begins in_word c.args.text.now c.args.at in
     (omega (arith, c.requires), (omega (arith, c.requires), omega (arith, c.requires)))
 
 pub returns-in-Some : goal.returns-in-Some
 returns-in-Some c =
-    name_short c.args.text.now c.args.at c.args.end c.small-letters-letters.result (Some c.in-Some.keyword) c.if-end-at-gt16.false c.small-letters-letters.ensures c.in-Some.ensures
+    name_short c.args.text.now c.args.at c.args.end c.small_letters-letters.result (Some c.in-Some.keyword) c.if-end-at-gt16.false c.small_letters-letters.ensures c.in-Some.ensures
 
 pub returns-in-Some-new : goal.returns-in-Some-new
 returns-in-Some-new c =
-    let w = c.small-letters-letters.result in
+    let w = c.small_letters-letters.result in
     let l : length w ≡ 16 = search rules in
     let n = name_taken c.in-Some-new.name w l c.in-Some-new.ensures.answer in
     ap (λ (v : List ℕ). found (name v) c.args.at c.args.end) n.1 ∙
-    name_short c.args.text.now c.args.at c.args.end w None c.if-end-at-gt16.false c.small-letters-letters.ensures c.in-default.ensures
+    name_short c.args.text.now c.args.at c.args.end w None c.if-end-at-gt16.false c.small_letters-letters.ensures c.in_default.ensures
 
 pub returns-in-None : goal.returns-in-None
 returns-in-None c =
-    let w = c.small-letters-letters.result in
+    let w = c.small_letters-letters.result in
     let l : length w ≡ 16 = search rules in
-    let e = c.small-letters-letters.ensures in
-    let lawful = run_lawful c.args.text.now c.args.at c.args.end c.requires.0 c.requires.1.0 c.requires.1.1.0 c.requires.1.1.1 c.if-end-at-gt16.false (ap keyword_of (sym e) ∙ sym c.in-default.ensures) in
+    let e = c.small_letters-letters.ensures in
+    let lawful = run_lawful c.args.text.now c.args.at c.args.end c.requires.0 c.requires.1.0 c.requires.1.1.0 c.requires.1.1.1 c.if-end-at-gt16.false (ap keyword_of (sym e) ∙ sym c.in_default.ensures) in
     absurd (both_ways (lawful_name w) (name_refused w l c.in-None.ensures.answer) (ap lawful_name e ∙ lawful))

@@ -7,14 +7,14 @@ returns-then-from-text c = scan_past c.args.text.now c.args.from c.if-from-text.
 
 pub returns-then-at-text : goal.returns-then-at-text
 returns-then-at-text c =
-    scan_ended c.args.text.now c.args.from c.run-end-at.result c.run-end-at.ensures.end c.if-at-text.true
+    scan_ended c.args.text.now c.args.from c.run_end-at.result c.run_end-at.ensures.end c.if-at-text.true
 
-pub returns-in-err-word : goal.returns-in-err-word
-returns-in-err-word c =
-    next_fault c.from-residual.result c.in-err-word.field-0.0 c.from-residual.ensures.1 ∙
-    (c.in-err-word.ensures ∙ scan_word c.args.text.now c.args.from c.run-end-at.result c.run-end-at.ensures.end c.if-at-text.false)
+pub returns-in_err-word : goal.returns-in_err-word
+returns-in_err-word c =
+    next_fault c.from_residual.result c.in_err-word.field-0.0 c.from_residual.ensures.1 ∙
+    (c.in_err-word.ensures ∙ scan_word c.args.text.now c.args.from c.run_end-at.result c.run_end-at.ensures.end c.if-at-text.false)
 
 pub returns : goal.returns
 returns c =
-    c.in-ok-word.ensures ∙
-    scan_word c.args.text.now c.args.from c.run-end-at.result c.run-end-at.ensures.end c.if-at-text.false
+    c.in_ok-word.ensures ∙
+    scan_word c.args.text.now c.args.from c.run_end-at.result c.run_end-at.ensures.end c.if-at-text.false

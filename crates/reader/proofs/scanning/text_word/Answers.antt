@@ -7,16 +7,16 @@ use Rattle.std.proofs.Common.{◌+◌, refl}
 
 pub returns-then-close-text : goal.returns-then-close-text
 returns-then-close-text c =
-    unclosed c.args.text.now c.args.at c.run-end-close.result (run_end (is_of Printable) c.args.text.now (c.args.at + 1)) c.run-end-close.ensures.end refl c.if-close-text.true
+    unclosed c.args.text.now c.args.at c.run_end-close.result (run_end (is_of Printable) c.args.text.now (c.args.at + 1)) c.run_end-close.ensures.end refl c.if-close-text.true
 
 pub returns-then-odd-close : goal.returns-then-odd-close
 returns-then-odd-close c =
-    odd_byte c.args.text.now c.args.at c.run-end-close.result c.run-end-odd.result c.run-end-close.ensures.end c.run-end-odd.ensures.end c.if-close-text.false c.if-odd-close.true
+    odd_byte c.args.text.now c.args.at c.run_end-close.result c.run_end-odd.result c.run_end-close.ensures.end c.run_end-odd.ensures.end c.if-close-text.false c.if-odd-close.true
 
-pub returns-in-default : goal.returns-in-default
-returns-in-default c =
-    text_long c.args.text.now c.args.at c.run-end-close.result c.run-end-odd.result c.run-end-close.ensures.end c.run-end-odd.ensures.end c.if-close-text.false c.if-odd-close.false c.in-default.ensures
+pub returns-in_default : goal.returns-in_default
+returns-in_default c =
+    text_long c.args.text.now c.args.at c.run_end-close.result c.run_end-odd.result c.run_end-close.ensures.end c.run_end-odd.ensures.end c.if-close-text.false c.if-odd-close.false c.in_default.ensures
 
 pub returns : goal.returns
 returns c =
-    text_found c.args.text.now c.args.at c.run-end-close.result c.run-end-odd.result c.run-end-close.ensures.end c.run-end-odd.ensures.end c.if-close-text.false c.if-odd-close.false (cell_of c.in-Some.value) c.in-Some.ensures
+    text_found c.args.text.now c.args.at c.run_end-close.result c.run_end-odd.result c.run_end-close.ensures.end c.run_end-odd.ensures.end c.if-close-text.false c.if-odd-close.false (cell_of c.in-Some.value) c.in-Some.ensures

@@ -5,6 +5,6 @@ use Rattle.stores.proofs.offered.area_with.Goals as goal
 pub returns : goal.returns
 returns c =
     let bs = c.args.batch.now in
-    let copied = c.copy-from-slice.ensures.after in
-    let l : length c.copy-from-slice.new.self ≡ length bs = ap length copied in
-    take-append-le (length bs) c.copy-from-slice.new.self _ (omega (arith, l)) ∙ (ap (take (length bs)) copied ∙ take_all (length bs) bs (omega arith))
+    let copied = c.copy_from_slice.ensures.after in
+    let l : length c.copy_from_slice.new.self ≡ length bs = ap length copied in
+    take-append-le (length bs) c.copy_from_slice.new.self _ (omega (arith, l)) ∙ (ap (take (length bs)) copied ∙ take_all (length bs) bs (omega arith))

@@ -11,5 +11,5 @@ lawful_n = refl
 none_some : {P : Type 0} (x : List ℕ) → None ≡ Some x → P
 none_some x e = absurd (let z : ◌≡◌ {A = ℕ} 0 1 = cc in omega arith)
 
-pub returns-in-err-name : goal.returns-in-err-name
-returns-in-err-name c = none_some (filled (110 ∷ [])) (c.in-err-name.ensures.answer ∙ lawful_n)
+pub returns-in_err-name : goal.returns-in_err-name
+returns-in_err-name c = none_some (filled (110 ∷ [])) (c.in_err-name.ensures.answer ∙ lawful_n)

@@ -12,5 +12,5 @@ spaces_left n = ap (λ (k : ℕ). drop {A = ℕ} k (replicate 16 32)) (sub-zero 
 
 pub returns : goal.returns
 returns c =
-    ap₂ (λ (ys zs : List ℕ). Some (ys ++ zs)) c.copy-from-slice.ensures.after (spaces_left (length c.args.bytes.now)) ∙
+    ap₂ (λ (ys zs : List ℕ). Some (ys ++ zs)) c.copy_from_slice.ensures.after (spaces_left (length c.args.bytes.now)) ∙
     sym (ap (λ t. filled_if t c.args.bytes.now) (le-leb (length c.args.bytes.now) 16 (omega arith)))

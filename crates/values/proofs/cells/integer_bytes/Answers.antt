@@ -8,5 +8,5 @@ use Rattle.values.proofs.cells.integer_bytes.Goals as goal
 pub returns : goal.returns
 unfolding encoded
 returns c =
-    ap (λ (bs : List ℕ). 0x11 ∷ bs) (four_array c.to-be-bytes.result c.cast-unsigned.result (replicate 12 0) c.to-be-bytes.ensures) ∙
-    ap (λ (n : ℕ). 0x11 ∷ (bytes_of 4 n ++ replicate 12 0)) (c.cast-unsigned.ensures ∙ ap (of_z w32) (to_z-of_z w32 c.args.n c.ranges.n))
+    ap (λ (bs : List ℕ). 0x11 ∷ bs) (four_array c.to_be_bytes.result c.cast_unsigned.result (replicate 12 0) c.to_be_bytes.ensures) ∙
+    ap (λ (n : ℕ). 0x11 ∷ (bytes_of 4 n ++ replicate 12 0)) (c.cast_unsigned.ensures ∙ ap (of_z w32) (to_z-of_z w32 c.args.n c.ranges.n))

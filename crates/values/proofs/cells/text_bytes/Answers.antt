@@ -10,5 +10,5 @@ pub returns : goal.returns
 unfolding encoded text_of
 returns c =
     ap (λ (bs : List ℕ). 0x13 ∷ bs)
-    (eight_array c.to-be-bytes.result c.args.high (eight_of c.to-be-bytes-2.result []) c.to-be-bytes.ensures ∙
-    ap (λ (zs : List ℕ). bytes_of 8 c.args.high ++ zs) (eight_array c.to-be-bytes-2.result c.args.low [] c.to-be-bytes-2.ensures ∙ append-nil (bytes_of 8 c.args.low)))
+    (eight_array c.to_be_bytes.result c.args.high (eight_of c.to_be_bytes-2.result []) c.to_be_bytes.ensures ∙
+    ap (λ (zs : List ℕ). bytes_of 8 c.args.high ++ zs) (eight_array c.to_be_bytes-2.result c.args.low [] c.to_be_bytes-2.ensures ∙ append-nil (bytes_of 8 c.args.low)))

@@ -28,22 +28,22 @@ read_some bs at r e t = let v = some_when r t in (cell_of v.0, read_as bs at r e
 pub returns-then-self : goal.returns-then-self
 returns-then-self c = cell_past c.args.bytes.now c.args.self.now c.requires.placed c.requires.table c.requires.byte c.requires.within c.if-self.true
 
-pub returns-then-not-accepts-command : goal.returns-then-not-accepts-command
-returns-then-not-accepts-command c =
-    cell_of_other_type c.args.bytes.now c.args.self.now c.requires.placed c.requires.table c.requires.byte c.requires.within c.if-self.false (fitting c.args.bytes.now _ _ _ false c.type-at-column.ensures c.if-not-accepts-command.ensures)
+pub returns-then-not-accepts_command : goal.returns-then-not-accepts_command
+returns-then-not-accepts_command c =
+    cell_of_other_type c.args.bytes.now c.args.self.now c.requires.placed c.requires.table c.requires.byte c.requires.within c.if-self.false (fitting c.args.bytes.now _ _ _ false c.type_at-column.ensures c.if-not-accepts_command.ensures)
 
 pub returns-then-bytes-at-lt17 : goal.returns-then-bytes-at-lt17
 returns-then-bytes-at-lt17 c =
-    cell_cut c.args.bytes.now c.args.self.now c.requires.placed c.requires.table c.requires.byte c.requires.within c.if-self.false (fitting c.args.bytes.now _ _ _ true c.type-at-column.ensures c.if-not-accepts-command.ensures) c.if-bytes-at-lt17.true
+    cell_cut c.args.bytes.now c.args.self.now c.requires.placed c.requires.table c.requires.byte c.requires.within c.if-self.false (fitting c.args.bytes.now _ _ _ true c.type_at-column.ensures c.if-not-accepts_command.ensures) c.if-bytes-at-lt17.true
 
-pub returns-then-is-none : goal.returns-then-is-none
-returns-then-is-none c =
-    cell_unlawful c.args.bytes.now c.args.self.now c.requires.placed c.requires.table c.requires.byte c.requires.within c.if-self.false (fitting c.args.bytes.now _ _ _ true c.type-at-column.ensures c.if-not-accepts-command.ensures) c.if-bytes-at-lt17.false (read_none c.args.bytes.now c.args.self.now.pos c.read.result c.read.ensures.answer c.if-is-none.ensures)
+pub returns-then-is_none : goal.returns-then-is_none
+returns-then-is_none c =
+    cell_unlawful c.args.bytes.now c.args.self.now c.requires.placed c.requires.table c.requires.byte c.requires.within c.if-self.false (fitting c.args.bytes.now _ _ _ true c.type_at-column.ensures c.if-not-accepts_command.ensures) c.if-bytes-at-lt17.false (read_none c.args.bytes.now c.args.self.now.pos c.read.result c.read.ensures.answer c.if-is_none.ensures)
 
 pub returns-then-self-2 : goal.returns-then-self-2
 returns-then-self-2 c =
-    let f = fitting c.args.bytes.now _ _ _ true c.type-at-column.ensures c.if-not-accepts-command.ensures in
-    let d = read_some c.args.bytes.now c.args.self.now.pos c.read.result c.read.ensures.answer c.if-is-none.ensures in (
+    let f = fitting c.args.bytes.now _ _ _ true c.type_at-column.ensures c.if-not-accepts_command.ensures in
+    let d = read_some c.args.bytes.now c.args.self.now.pos c.read.result c.read.ensures.answer c.if-is_none.ensures in (
       16,
       cell_taken c.args.bytes.now c.args.self.now c.requires.placed c.requires.table c.requires.byte c.requires.within c.if-self.false f c.if-bytes-at-lt17.false d.0 d.1 c.if-self-2.true,
       omega arith,
@@ -52,8 +52,8 @@ returns-then-self-2 c =
 
 pub returns-else-self-2 : goal.returns-else-self-2
 returns-else-self-2 c =
-    let f = fitting c.args.bytes.now _ _ _ true c.type-at-column.ensures c.if-not-accepts-command.ensures in
-    let d = read_some c.args.bytes.now c.args.self.now.pos c.read.result c.read.ensures.answer c.if-is-none.ensures in (
+    let f = fitting c.args.bytes.now _ _ _ true c.type_at-column.ensures c.if-not-accepts_command.ensures in
+    let d = read_some c.args.bytes.now c.args.self.now.pos c.read.result c.read.ensures.answer c.if-is_none.ensures in (
       16,
       row_taken c.args.bytes.now c.args.self.now c.requires.placed c.requires.table c.requires.byte c.requires.within c.if-self.false f c.if-bytes-at-lt17.false d.0 d.1 c.if-self-2.false,
       omega arith,

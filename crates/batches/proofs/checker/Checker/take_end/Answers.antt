@@ -15,8 +15,8 @@ returns-then-self-eq0 c =
       | then-self-eq0-via-else-self-eq0+then-self-ne0 w ↦ inr w.if-self-ne0.true
     ])
 
-pub overflow-cast-self-3 : goal.overflow-cast-self-3
-overflow-cast-self-3 c =
+pub overflow_cast-self-3 : goal.overflow_cast-self-3
+overflow_cast-self-3 c =
     let few = rows_few c.args.bytes.now c.args.self.now c.requires.placed c.requires.table c.if-self-eq0.false in
     record { fits = omega (arith, c.requires.short) }
 

@@ -18,23 +18,23 @@ returns-then-bytes-at-lt17 c =
     let e : length c.args.self.now.catalog.tables ≡ 8 = search rules in
     table_cut c.args.bytes.now c.args.self.now c.requires.stage c.requires.byte c.requires.within e c.if-self-ge8.false c.if-bytes-at-lt17.true
 
-pub returns-in-default : goal.returns-in-default
-returns-in-default c =
+pub returns-in_default : goal.returns-in_default
+returns-in_default c =
     let e : length c.args.self.now.catalog.tables ≡ 8 = search rules in
-    table_unlawful c.args.bytes.now c.args.self.now c.requires.stage c.requires.byte c.requires.within e c.if-self-ge8.false c.if-bytes-at-lt17.false (inl (no_name_read _ _ c.in-default.ensures))
+    table_unlawful c.args.bytes.now c.args.self.now c.requires.stage c.requires.byte c.requires.within e c.if-self-ge8.false c.if-bytes-at-lt17.false (inl (no_name_read _ _ c.in_default.ensures))
 
-pub returns-then-is-some : goal.returns-then-is-some
-returns-then-is-some c =
+pub returns-then-is_some : goal.returns-then-is_some
+returns-then-is_some c =
     let e : length c.args.self.now.catalog.tables ≡ 8 = search rules in
     let n = name_read c.in-Some.name _ _ c.in-Some.ensures in
-    table_unlawful c.args.bytes.now c.args.self.now c.requires.stage c.requires.byte c.requires.within e c.if-self-ge8.false c.if-bytes-at-lt17.false (inr (tested _ _ (told_by c.args.bytes.now c.args.self.now.catalog) c.find.result true n.1 c.find.ensures (sym c.if-is-some.ensures)))
+    table_unlawful c.args.bytes.now c.args.self.now c.requires.stage c.requires.byte c.requires.within e c.if-self-ge8.false c.if-bytes-at-lt17.false (inr (tested _ _ (told_by c.args.bytes.now c.args.self.now.catalog) c.find.result true n.1 c.find.ensures (sym c.if-is_some.ensures)))
 
 pub returns : goal.returns
 returns c =
     let e : length c.args.self.now.catalog.tables ≡ 8 = search rules in
     let n = name_read c.in-Some.name _ _ c.in-Some.ensures in (
       16,
-      table_taken c.args.bytes.now c.args.self.now c.requires.stage c.requires.byte c.requires.within e c.if-self-ge8.false c.if-bytes-at-lt17.false n.0 (tested _ _ (told_by c.args.bytes.now c.args.self.now.catalog) c.find.result false n.1 c.find.ensures (sym c.if-is-some.ensures)),
+      table_taken c.args.bytes.now c.args.self.now c.requires.stage c.requires.byte c.requires.within e c.if-self-ge8.false c.if-bytes-at-lt17.false n.0 (tested _ _ (told_by c.args.bytes.now c.args.self.now.catalog) c.find.result false n.1 c.find.ensures (sym c.if-is_some.ensures)),
       omega arith,
       table_placed c.args.bytes.now c.args.self.now c.requires.stage c.requires.byte c.requires.within e c.if-self-ge8.false c.if-bytes-at-lt17.false c.requires.placed,
     )

@@ -7,21 +7,21 @@ use Rattle.batches.specs.Layouts.{type_at}
 use Rattle.batches.proofs.Asking.{column_by, column_past, column_read}
 use Rattle.batches.proofs.layout.Catalog.column.Goals as goal
 
-pub returns-in-err-layout : goal.returns-in-err-layout
-returns-in-err-layout c =
-    ap (option_map heading_of) c.from-residual.ensures ∙
-    sym (column_by c.args.bytes.now c.args.self.now c.args.table None c.in-err-layout.ensures c.args.i)
+pub returns-in_err-layout : goal.returns-in_err-layout
+returns-in_err-layout c =
+    ap (option_map heading_of) c.from_residual.ensures ∙
+    sym (column_by c.args.bytes.now c.args.self.now c.args.table None c.in_err-layout.ensures c.args.i)
 
 pub returns-then-i-layout : goal.returns-then-i-layout
-returns-then-i-layout c = sym (column_past c.args.bytes.now c.args.self.now c.args.table c.in-ok-layout.layout c.in-ok-layout.ensures c.args.i c.if-i-layout.true)
+returns-then-i-layout c = sym (column_past c.args.bytes.now c.args.self.now c.args.table c.in_ok-layout.layout c.in_ok-layout.ensures c.args.i c.if-i-layout.true)
 
-pub returns-in-err-name : goal.returns-in-err-name
-returns-in-err-name c =
-    ap (option_map heading_of) c.from-residual-in-err-name.ensures ∙
-    column_read c.args.bytes.now c.args.self.now c.args.table c.in-ok-layout.layout c.in-ok-layout.ensures c.args.i c.if-i-layout.false None c.in-err-name.ensures
+pub returns-in_err-name : goal.returns-in_err-name
+returns-in_err-name c =
+    ap (option_map heading_of) c.from_residual-in_err-name.ensures ∙
+    column_read c.args.bytes.now c.args.self.now c.args.table c.in_ok-layout.layout c.in_ok-layout.ensures c.args.i c.if-i-layout.false None c.in_err-name.ensures
 
 pub returns : goal.returns
 returns c =
-    let n = name_bytes c.in-ok-name.name in
-    ap (λ (k : ColumnType). Some (record { name = n; holds = k })) (c.type-at-holds.ensures ∙ ap type_at c.byte-at.ensures) ∙
-    column_read c.args.bytes.now c.args.self.now c.args.table c.in-ok-layout.layout c.in-ok-layout.ensures c.args.i c.if-i-layout.false (Some n) c.in-ok-name.ensures
+    let n = name_bytes c.in_ok-name.name in
+    ap (λ (k : ColumnType). Some (record { name = n; holds = k })) (c.type_at-holds.ensures ∙ ap type_at c.byte_at.ensures) ∙
+    column_read c.args.bytes.now c.args.self.now c.args.table c.in_ok-layout.layout c.in_ok-layout.ensures c.args.i c.if-i-layout.false (Some n) c.in_ok-name.ensures

@@ -9,20 +9,20 @@ use Rattle.values.specs.Named.{name_bytes}
 pub returns-then-same : goal.returns-then-same
 returns-then-same c =
     let e : length c.args.self.now.tables ≡ 8 = search rules in
-    catalog_found c.args.bytes.now c.to-bytes-wanted.result c.args.self.now c.loop-i.i e c.loop-i-test.true c.loop-i.invariant c.if-same.ensures ∙
-    ap (λ n. place_of n (told_by c.args.bytes.now c.args.self.now)) c.to-bytes-wanted.ensures
+    catalog_found c.args.bytes.now c.to_bytes-wanted.result c.args.self.now c.loop-i.i e c.loop-i-test.true c.loop-i.invariant c.if-same.ensures ∙
+    ap (λ n. place_of n (told_by c.args.bytes.now c.args.self.now)) c.to_bytes-wanted.ensures
 
 pub loop-i-preserved : goal.loop-i-preserved
 loop-i-preserved c =
     let e : length c.args.self.now.tables ≡ 8 = search rules in
-    let k : length c.to-bytes-wanted.result ≡ 16 = ap length c.to-bytes-wanted.ensures ∙ lawful_length (name_bytes c.args.name) (name_lawful c.args.name) in
+    let k : length c.to_bytes-wanted.result ≡ 16 = ap length c.to_bytes-wanted.ensures ∙ lawful_length (name_bytes c.args.name) (name_lawful c.args.name) in
     elim c.else-at-bytes.branch [
-      | else-at-bytes-via-then-at-bytes+else-same w ↦ catalog_missed c.args.bytes.now c.to-bytes-wanted.result c.args.self.now c.loop-i.i e c.loop-i-test.true c.loop-i.invariant w.if-same.ensures
-      | else-at-bytes-via-else-at-bytes w ↦ catalog_short c.args.bytes.now c.to-bytes-wanted.result c.args.self.now c.loop-i.i e c.loop-i-test.true c.loop-i.invariant k w.if-at-bytes.false
+      | else-at-bytes-via-then-at-bytes+else-same w ↦ catalog_missed c.args.bytes.now c.to_bytes-wanted.result c.args.self.now c.loop-i.i e c.loop-i-test.true c.loop-i.invariant w.if-same.ensures
+      | else-at-bytes-via-else-at-bytes w ↦ catalog_short c.args.bytes.now c.to_bytes-wanted.result c.args.self.now c.loop-i.i e c.loop-i-test.true c.loop-i.invariant k w.if-at-bytes.false
     ]
 
 pub returns : goal.returns
 returns c =
     let l = few_listed c.args.self.now in
-    found_nowhere (table_at c.args.bytes.now) c.to-bytes-wanted.result (take c.args.self.now.count c.args.self.now.tables) c.loop-i.i (omega arith) c.loop-i.invariant ∙
-    ap (λ n. place_of n (told_by c.args.bytes.now c.args.self.now)) c.to-bytes-wanted.ensures
+    found_nowhere (table_at c.args.bytes.now) c.to_bytes-wanted.result (take c.args.self.now.count c.args.self.now.tables) c.loop-i.i (omega arith) c.loop-i.invariant ∙
+    ap (λ n. place_of n (told_by c.args.bytes.now c.args.self.now)) c.to_bytes-wanted.ensures

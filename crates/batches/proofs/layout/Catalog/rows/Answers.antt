@@ -2,10 +2,10 @@ use Rattle.std.proofs.Common.{Some, None, sym, ◌∙◌}
 use Rattle.batches.proofs.Asking.{count_by}
 use Rattle.batches.proofs.layout.Catalog.rows.Goals as goal
 
-pub returns-in-err-layout : goal.returns-in-err-layout
-returns-in-err-layout c =
-    λ bs. c.from-residual.ensures ∙ sym (count_by bs c.args.self.now c.args.table None c.in-err-layout.ensures)
+pub returns-in_err-layout : goal.returns-in_err-layout
+returns-in_err-layout c =
+    λ bs. c.from_residual.ensures ∙ sym (count_by bs c.args.self.now c.args.table None c.in_err-layout.ensures)
 
 pub returns : goal.returns
 returns c =
-    λ bs. sym (count_by bs c.args.self.now c.args.table (Some c.in-ok-layout.layout) c.in-ok-layout.ensures)
+    λ bs. sym (count_by bs c.args.self.now c.args.table (Some c.in_ok-layout.layout) c.in_ok-layout.ensures)

@@ -4,7 +4,7 @@ use Rattle.batches.proofs.writer.BatchWriter.cells.Goals as goal
 
 pub loop-cell-preserved : goal.loop-cell-preserved
 loop-cell-preserved c =
-    one_more cell_command c.args.cells.now (bytes_in c.args.self.now) c.loop-cell.cell-index c.cell-item.result c.loop-cell-test.true c.cell-item.is c.loop-cell.invariant c.in-ok-cell.ensures
+    one_more cell_command c.args.cells.now (bytes_in c.args.self.now) c.loop-cell.cell-index c.cell-item.result c.loop-cell-test.true c.cell-item.is c.loop-cell.invariant c.in_ok-cell.ensures
 
 pub returns : goal.returns
 returns c =

@@ -6,28 +6,29 @@ use Rattle.stores.specs.Shelved.{renamed}
 use Rattle.stores.proofs.Offering.{area_lawful, area_offered, bad_name, carried, from_table, good_name, too_long_lem}
 use Rattle.stores.proofs.kept.KeptTable.new.Goals as goal
 
-pub returns-in-err-name : goal.returns-in-err-name
-returns-in-err-name c =
-    carried kept_as c.from-residual.result c.in-err-name.field-0.0 c.from-residual.ensures.1 ∙
-    bad_name c.args.name c.args.batch.now (store_refusal c.in-err-name.field-0.0) c.in-err-name.ensures
+pub returns-in_err-name : goal.returns-in_err-name
+returns-in_err-name c =
+    carried kept_as c.from_residual.result c.in_err-name.field-0.0 c.from_residual.ensures.1 ∙
+    bad_name c.args.name c.args.batch.now (store_refusal c.in_err-name.field-0.0) c.in_err-name.ensures
 
 pub returns-then-batch-gt2048 : goal.returns-then-batch-gt2048
 returns-then-batch-gt2048 c =
-    too_long_lem c.args.name c.args.batch.now (good_name c.args.name _ c.in-ok-name.ensures).0 c.if-batch-gt2048.true
+    too_long_lem c.args.name c.args.batch.now (good_name c.args.name _ c.in_ok-name.ensures).0 c.if-batch-gt2048.true
 
-pub returns-in-err-catalog : goal.returns-in-err-catalog
-returns-in-err-catalog c =
-    carried kept_as c.from-residual-in-err-catalog.result c.in-err-catalog.field-0.0 c.from-residual-in-err-catalog.ensures.1 ∙
-    (ap (renamed c.args.name) c.in-err-catalog.ensures ∙
-    sym (from_table c.args.name c.args.batch.now (good_name c.args.name _ c.in-ok-name.ensures).0 c.if-batch-gt2048.false))
+pub returns-in_err-catalog : goal.returns-in_err-catalog
+returns-in_err-catalog c =
+    carried kept_as c.from_residual-in_err-catalog.result c.in_err-catalog.field-0.0 c.from_residual-in_err-catalog.ensures.1 ∙
+    (ap (renamed c.args.name) c.in_err-catalog.ensures ∙
+    sym (from_table c.args.name c.args.batch.now (good_name c.args.name _ c.in_ok-name.ensures).0 c.if-batch-gt2048.false))
 
-pub invariant-of-result : goal.invariant-of-result
-invariant-of-result c =
-    let bs = c.args.batch.now in (
-      c.if-batch-gt2048.false,
-      (area_lawful c.in-ok-name.name c.area-with-bytes.result bs c.in-ok-catalog.catalog c.area-with-bytes.ensures (bytes_typed bs c.type-inv.batch) c.in-ok-catalog.ensures, tt),
-    )
+pub invariant_of-result : goal.invariant_of-result
+invariant_of-result c =
+    let bs = c.args.batch.now in
+    record {
+      short = c.if-batch-gt2048.false;
+      lawful = area_lawful c.in_ok-name.name c.area_with-bytes.result bs c.in_ok-catalog.catalog c.area_with-bytes.ensures (bytes_typed bs c.type_inv.batch) c.in_ok-catalog.ensures;
+    }
 
 pub returns : goal.returns
 returns c =
-    area_offered c.in-ok-name.name c.area-with-bytes.result c.args.batch.now c.in-ok-catalog.catalog c.area-with-bytes.ensures c.args.name c.if-batch-gt2048.false c.in-ok-name.ensures c.in-ok-catalog.ensures
+    area_offered c.in_ok-name.name c.area_with-bytes.result c.args.batch.now c.in_ok-catalog.catalog c.area_with-bytes.ensures c.args.name c.if-batch-gt2048.false c.in_ok-name.ensures c.in_ok-catalog.ensures

@@ -6,6 +6,6 @@ use Rattle.values.specs.Cells.{cell_of}
 use Rattle.stores.specs.Meaning.{column_of}
 use Rattle.stores.proofs.kept_tables.KeptTables.column.Goals as goal
 
-pub returns-in-err-table : goal.returns-in-err-table
+pub returns-in_err-table : goal.returns-in_err-table
 unfolding column_of
-returns-in-err-table c = ap (option_map heading_of) c.from-residual.ensures ∙ ap (λ (o : Option Table). column_of o c.args.i) c.in-err-table.ensures
+returns-in_err-table c = ap (option_map heading_of) c.from_residual.ensures ∙ ap (λ (o : Option Table). column_of o c.args.i) c.in_err-table.ensures

@@ -6,6 +6,6 @@ use Rattle.values.specs.Cells.{cell_of}
 use Rattle.stores.specs.Meaning.{count_of}
 use Rattle.stores.proofs.kept_tables.KeptTables.count.Goals as goal
 
-pub returns-in-err-table : goal.returns-in-err-table
+pub returns-in_err-table : goal.returns-in_err-table
 unfolding count_of
-returns-in-err-table c = c.from-residual.ensures ∙ ap (count_of) c.in-err-table.ensures
+returns-in_err-table c = c.from_residual.ensures ∙ ap (count_of) c.in_err-table.ensures

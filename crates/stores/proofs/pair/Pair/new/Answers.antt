@@ -15,10 +15,10 @@ returns g c =
       like_symmetric = like_symmetric;
       like_transitive = like_transitive;
       like_gives_equal = like_gives_equal;
-      equal-by-name = counterpart;
-      like-by-name = counterpart_firsts;
+      equal_by_name = counterpart;
+      like_by_name = counterpart_firsts;
       single = pair_single;
       unlike = pair_unlike;
       alike = pair_alike;
-      of-equals = pair_of_equals;
+      of_equals = pair_of_equals;
     }

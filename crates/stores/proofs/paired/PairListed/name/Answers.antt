@@ -10,19 +10,19 @@ returns-in-Some g c =
     let us = g.B.Store.told c.args.self.now.second in
     c.in-Some.ensures ∙ sym (pair_first ts us c.args.place (name_within ts c.args.place (sym (ap is_some c.in-Some.ensures))))
 
-pub tables-up-to-tables-requires : goal.tables-up-to-tables-requires
-tables-up-to-tables-requires g c =
-    name_past (g.A.Store.told c.args.self.now.first) c.args.place (sym (ap is_some c.in-default.ensures))
+pub tables_up_to-tables-requires : goal.tables_up_to-tables-requires
+tables_up_to-tables-requires g c =
+    name_past (g.A.Store.told c.args.self.now.first) c.args.place (sym (ap is_some c.in_default.ensures))
 
-pub overflow-sub-place : goal.overflow-sub-place
-overflow-sub-place g c =
-    let past = name_past (g.A.Store.told c.args.self.now.first) c.args.place (sym (ap is_some c.in-default.ensures)) in
-    omega (arith, c.tables-up-to-tables.ensures)
+pub overflow_sub-place : goal.overflow_sub-place
+overflow_sub-place g c =
+    let past = name_past (g.A.Store.told c.args.self.now.first) c.args.place (sym (ap is_some c.in_default.ensures)) in
+    omega (arith, c.tables_up_to-tables.ensures)
 
 pub returns : goal.returns
 returns g c =
     let ts = g.A.Store.told c.args.self.now.first in
     let us = g.B.Store.told c.args.self.now.second in
-    c.untold-name.ensures ∙
-    (ap (λ (k : ℕ). name_told (filter (untold ts) us) (c.args.place - k)) c.tables-up-to-tables.ensures ∙
-    sym (pair_second ts us c.args.place (name_past ts c.args.place (sym (ap is_some c.in-default.ensures)))))
+    c.untold_name.ensures ∙
+    (ap (λ (k : ℕ). name_told (filter (untold ts) us) (c.args.place - k)) c.tables_up_to-tables.ensures ∙
+    sym (pair_second ts us c.args.place (name_past ts c.args.place (sym (ap is_some c.in_default.ensures)))))

@@ -20,4 +20,4 @@ pub returns-in-Both : goal.returns-in-Both
 returns-in-Both g c =
     let f = g.A.Store.stands c.args.self.now.first in
     let h = g.B.Store.stands c.args.self.now.second in
-    c.cell-together.ensures ∙ ap (λ (o : Option Table). value_of o c.args.row c.args.column) (sym (stands_both f h c.args.table c.in-Both.m c.in-Both.n c.in-Both.is))
+    c.cell_together.ensures ∙ ap (λ (o : Option Table). value_of o c.args.row c.args.column) (sym (stands_both f h c.args.table c.in-Both.m c.in-Both.n c.in-Both.is))

@@ -22,7 +22,7 @@ pub returns-in-Both : goal.returns-in-Both
 returns-in-Both g c =
     let f = g.A.Store.stands c.args.self.now.first in
     let h = g.B.Store.stands c.args.self.now.second in
-    c.count-together.ensures ∙
+    c.count_together.ensures ∙
     (ap₂ join_count c.count-in-Both.ensures c.count-in-Both-2.ensures ∙
     (sym (count_joined (f c.in-Both.m) (h c.in-Both.n)) ∙
     ap count_of (sym (stands_both f h c.args.table c.in-Both.m c.in-Both.n c.in-Both.is))))

@@ -5,8 +5,8 @@ use Rattle.stores.specs.PairNumbers.{number_of_both}
 use Rattle.stores.specs.Pairing.{number_narrow}
 use Rattle.stores.proofs.paired.PairStore.find.Goals as goal
 
-pub same-columns-requires : goal.same-columns-requires
-same-columns-requires g c =
+pub same_columns-requires : goal.same_columns-requires
+same_columns-requires g c =
     let s = c.args.self.now in
     let n = name_bytes c.args.name in (
       number_narrow (g.A.Store.told s.first) n (g.A.Store.stands s.first) (g.A.Store.number s.first n) c.in-Some-Some.m (g.met.A.Store.lawful s.first) (g.met.A.Store.named s.first n) (g.met.A.Store.known s.first n) (sym c.find.ensures ∙ c.in-Some-Some.is-0),
@@ -31,14 +31,14 @@ returns-in-Some-None g c =
     let s = c.args.self.now in
     sym (ap₂ (pair_number (g.A.Store.stands s.first) (g.B.Store.stands s.second)) (sym c.find.ensures ∙ c.in-Some-None.is-0) (sym c.find-2.ensures ∙ c.in-Some-None.is-1))
 
-pub returns-then-same-columns : goal.returns-then-same-columns
-returns-then-same-columns g c =
+pub returns-then-same_columns : goal.returns-then-same_columns
+returns-then-same_columns g c =
     let s = c.args.self.now in
     let n = name_bytes c.args.name in
-    sym (number_of_both (g.A.Store.stands s.first) (g.B.Store.stands s.second) (g.A.Store.number s.first n) (g.B.Store.number s.second n) c.in-Some-Some.m c.in-Some-Some.n true (sym c.find.ensures ∙ c.in-Some-Some.is-0) (sym c.find-2.ensures ∙ c.in-Some-Some.is-1) (sym c.same-columns.ensures ∙ c.if-same-columns.true))
+    sym (number_of_both (g.A.Store.stands s.first) (g.B.Store.stands s.second) (g.A.Store.number s.first n) (g.B.Store.number s.second n) c.in-Some-Some.m c.in-Some-Some.n true (sym c.find.ensures ∙ c.in-Some-Some.is-0) (sym c.find-2.ensures ∙ c.in-Some-Some.is-1) (sym c.same_columns.ensures ∙ c.if-same_columns.true))
 
-pub returns-else-same-columns : goal.returns-else-same-columns
-returns-else-same-columns g c =
+pub returns-else-same_columns : goal.returns-else-same_columns
+returns-else-same_columns g c =
     let s = c.args.self.now in
     let n = name_bytes c.args.name in
-    sym (number_of_both (g.A.Store.stands s.first) (g.B.Store.stands s.second) (g.A.Store.number s.first n) (g.B.Store.number s.second n) c.in-Some-Some.m c.in-Some-Some.n false (sym c.find.ensures ∙ c.in-Some-Some.is-0) (sym c.find-2.ensures ∙ c.in-Some-Some.is-1) (sym c.same-columns.ensures ∙ c.if-same-columns.false))
+    sym (number_of_both (g.A.Store.stands s.first) (g.B.Store.stands s.second) (g.A.Store.number s.first n) (g.B.Store.number s.second n) c.in-Some-Some.m c.in-Some-Some.n false (sym c.find.ensures ∙ c.in-Some-Some.is-0) (sym c.find-2.ensures ∙ c.in-Some-Some.is-1) (sym c.same_columns.ensures ∙ c.if-same_columns.false))

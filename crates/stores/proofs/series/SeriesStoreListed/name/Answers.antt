@@ -16,18 +16,18 @@ here : (x : Series) (k : ℕ) → k ≡ 0 → name_told (told_of (Some x)) k ≡
 unfolding name_told
 here x k e = ap (name_told (told_of (Some x))) e
 
-pub returns-in-err-series : goal.returns-in-err-series
+pub returns-in_err-series : goal.returns-in_err-series
 unfolding series_told name_told
-returns-in-err-series c =
-    ap (option_map name_bytes) c.from-residual.ensures ∙ sym (ap (λ (o : Option Series). name_told (told_of o) c.args.place) c.in-err-series.was)
+returns-in_err-series c =
+    ap (option_map name_bytes) c.from_residual.ensures ∙ sym (ap (λ (o : Option Series). name_told (told_of o) c.args.place) c.in_err-series.was)
 
 pub returns-then-place-gt0 : goal.returns-then-place-gt0
 unfolding series_told
 returns-then-place-gt0 c =
-    sym (ap (λ (o : Option Series). name_told (told_of o) c.args.place) c.in-ok-series.was ∙ past c.in-ok-series.series c.args.place c.if-place-gt0.true)
+    sym (ap (λ (o : Option Series). name_told (told_of o) c.args.place) c.in_ok-series.was ∙ past c.in_ok-series.series c.args.place c.if-place-gt0.true)
 
 pub returns : goal.returns
 unfolding series_told
 returns c =
     let z : c.args.place ≡ 0 = omega arith in
-    sym (ap (λ (o : Option Series). name_told (told_of o) c.args.place) c.in-ok-series.was ∙ here c.in-ok-series.series c.args.place z)
+    sym (ap (λ (o : Option Series). name_told (told_of o) c.args.place) c.in_ok-series.was ∙ here c.in_ok-series.series c.args.place z)

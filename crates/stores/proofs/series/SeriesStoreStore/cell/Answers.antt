@@ -15,23 +15,23 @@ asked : (o : Option Series) (x : Series) (r k : ℕ) → o ≡ Some x → value_
 unfolding value_of
 asked o x r k e = ap (λ (p : Option Series). value_of (option_map (λ y. series_table y.first y.last) p) r k) e
 
-pub returns-in-err-series : goal.returns-in-err-series
+pub returns-in_err-series : goal.returns-in_err-series
 unfolding value_of
-returns-in-err-series c =
-    ap (option_map cell_of) c.from-residual.ensures ∙
-    sym (ap (λ (o : Option Series). value_of (option_map (λ x. series_table x.first x.last) o) c.args.row c.args.column) c.in-err-series.was)
+returns-in_err-series c =
+    ap (option_map cell_of) c.from_residual.ensures ∙
+    sym (ap (λ (o : Option Series). value_of (option_map (λ x. series_table x.first x.last) o) c.args.row c.args.column) c.in_err-series.was)
 
-pub returns-in-err-count : goal.returns-in-err-count
-returns-in-err-count c =
-    let x = c.in-ok-series.series in
-    ap (option_map cell_of) c.from-residual-in-err-count.ensures ∙
-    sym (asked c.args.self.now.series x c.args.row c.args.column c.in-ok-series.was ∙ ap (λ (b : Body). cell_in b c.args.row c.args.column) (body_marked x.first x.last c.in-err-count.ensures))
+pub returns-in_err-count : goal.returns-in_err-count
+returns-in_err-count c =
+    let x = c.in_ok-series.series in
+    ap (option_map cell_of) c.from_residual-in_err-count.ensures ∙
+    sym (asked c.args.self.now.series x c.args.row c.args.column c.in_ok-series.was ∙ ap (λ (b : Body). cell_in b c.args.row c.args.column) (body_marked x.first x.last c.in_err-count.ensures))
 
 pub returns-then-row-count : goal.returns-then-row-count
 returns-then-row-count c =
-    let x = c.in-ok-series.series in
-    let b = body_counted x.first x.last c.in-ok-count.count c.in-ok-count.ensures in
-    sym (asked c.args.self.now.series x c.args.row c.args.column c.in-ok-series.was ∙
+    let x = c.in_ok-series.series in
+    let b = body_counted x.first x.last c.in_ok-count.count c.in_ok-count.ensures in
+    sym (asked c.args.self.now.series x c.args.row c.args.column c.in_ok-series.was ∙
     (ap (λ (d : Body). cell_in d c.args.row c.args.column) b.1 ∙
     elim c.then-row-count.branch [
       | then-row-count-via-then-row-count w ↦ number_past x.first (how_many x.first x.last) c.args.row c.args.column (omega arith)
@@ -40,10 +40,10 @@ returns-then-row-count c =
 
 pub returns : goal.returns
 returns c =
-    let x = c.in-ok-series.series in
-    let b = body_counted x.first x.last c.in-ok-count.count c.in-ok-count.ensures in
+    let x = c.in_ok-series.series in
+    let b = body_counted x.first x.last c.in_ok-count.count c.in_ok-count.ensures in
     let z : c.args.column ≡ 0 = omega arith in
-    ap Some c.number-at.ensures ∙
-    sym (asked c.args.self.now.series x c.args.row c.args.column c.in-ok-series.was ∙
+    ap Some c.number_at.ensures ∙
+    sym (asked c.args.self.now.series x c.args.row c.args.column c.in_ok-series.was ∙
     (ap (λ (d : Body). cell_in d c.args.row c.args.column) b.1 ∙
     (ap (cell_in (rows (numbers_from x.first (how_many x.first x.last))) c.args.row) z ∙ number_here x.first (how_many x.first x.last) c.args.row (omega arith))))

@@ -17,18 +17,18 @@ past : (i : ℕ) → 0 < i → slice_get (series_heading ∷ []) i ≡ None
 past zero h = absurd (omega arith)
 past (suc i) h = refl
 
-pub returns-in-err--series : goal.returns-in-err--series
+pub returns-in_err-_series : goal.returns-in_err-_series
 unfolding column_of
-returns-in-err--series c =
-    ap (option_map heading_of) c.from-residual.ensures ∙
-    sym (ap (λ (o : Option Series). column_of (option_map (λ x. series_table x.first x.last) o) c.args.i) c.in-err--series.was)
+returns-in_err-_series c =
+    ap (option_map heading_of) c.from_residual.ensures ∙
+    sym (ap (λ (o : Option Series). column_of (option_map (λ x. series_table x.first x.last) o) c.args.i) c.in_err-_series.was)
 
 pub returns-then-i-gt0 : goal.returns-then-i-gt0
 returns-then-i-gt0 c =
-    sym (asked c.args.self.now.series c.in-ok--series.-series c.args.i c.in-ok--series.was ∙ past c.args.i c.if-i-gt0.true)
+    sym (asked c.args.self.now.series c.in_ok-_series._series c.args.i c.in_ok-_series.was ∙ past c.args.i c.if-i-gt0.true)
 
 pub returns : goal.returns
 returns c =
     let z : c.args.i ≡ 0 = omega arith in
-    c.series-column.ensures ∙
-    sym (asked c.args.self.now.series c.in-ok--series.-series c.args.i c.in-ok--series.was ∙ ap (slice_get (series_heading ∷ [])) z)
+    c.series_column.ensures ∙
+    sym (asked c.args.self.now.series c.in_ok-_series._series c.args.i c.in_ok-_series.was ∙ ap (slice_get (series_heading ∷ [])) z)

@@ -7,12 +7,12 @@ use Rattle.stores.proofs.ShelfCalls.{drop_done, drop_not, kept_apart, place_with
 use Rattle.stores.proofs.Shelving.{drop_frees, drop_visible}
 use Rattle.stores.proofs.shelf.Shelf.drop.Goals as goal
 
-pub returns-in-default : goal.returns-in-default
+pub returns-in_default : goal.returns-in_default
 unfolding after_drop
-returns-in-default g c =
+returns-in_default g c =
     let ks = c.args.self.now.kept in
     let l : length c.args.name ≡ 16 = search rules in
-    let not = drop_not (holds_in ks) c.args.name (unlawful_unkept ks c.args.name (name_refused c.args.name l c.in-default.ensures.answer)) in
+    let not = drop_not (holds_in ks) c.args.name (unlawful_unkept ks c.args.name (name_refused c.args.name l c.in_default.ensures.answer)) in
     record {
       answer = sym (ap refusal_of not);
       places = sym (ap (λ (o : Outcome ℕ). after_drop o (holds_in ks)) not);
@@ -22,13 +22,13 @@ returns-in-default g c =
       visible = drop_visible;
     }
 
-pub returns-in-default-place-named : goal.returns-in-default-place-named
+pub returns-in_default-place_named : goal.returns-in_default-place_named
 unfolding after_drop
-returns-in-default-place-named g c =
+returns-in_default-place_named g c =
     let ks = c.args.self.now.kept in
     let l : length c.args.name ≡ 16 = search rules in
     let n = name_taken c.in-Some.name c.args.name l c.in-Some.ensures.answer in
-    let not = drop_not (holds_in ks) c.args.name (ap (place_holding (holds_in ks)) (sym n.1) ∙ sym c.in-default-place-named.ensures) in
+    let not = drop_not (holds_in ks) c.args.name (ap (place_holding (holds_in ks)) (sym n.1) ∙ sym c.in_default-place_named.ensures) in
     record {
       answer = sym (ap refusal_of not);
       places = sym (ap (λ (o : Outcome ℕ). after_drop o (holds_in ks)) not);
@@ -40,7 +40,7 @@ returns-in-default-place-named g c =
 
 pub free-requires : goal.free-requires
 free-requires g c =
-    place_within c.args.self.now.kept (is_named (name_bytes c.in-Some.name)) c.in-Some-place-named.place (sym c.in-Some-place-named.ensures)
+    place_within c.args.self.now.kept (is_named (name_bytes c.in-Some.name)) c.in-Some-place_named.place (sym c.in-Some-place_named.ensures)
 
 pub returns : goal.returns
 unfolding after_drop
@@ -48,7 +48,7 @@ returns g c =
     let ks = c.args.self.now.kept in
     let l : length c.args.name ≡ 16 = search rules in
     let n = name_taken c.in-Some.name c.args.name l c.in-Some.ensures.answer in
-    let freed = drop_done (holds_in ks) c.args.name c.in-Some-place-named.place (ap (place_holding (holds_in ks)) (sym n.1) ∙ sym c.in-Some-place-named.ensures) in
+    let freed = drop_done (holds_in ks) c.args.name c.in-Some-place_named.place (ap (place_holding (holds_in ks)) (sym n.1) ∙ sym c.in-Some-place_named.ensures) in
     record {
       answer = sym (ap refusal_of freed);
       places = c.free.ensures ∙ sym (ap (λ (o : Outcome ℕ). after_drop o (holds_in ks)) freed);

@@ -11,14 +11,14 @@ use Rattle.stores.proofs.Shelving.{keep_tells, keep_visible}
 use Rattle.stores.proofs.shelf.Shelf.keep.Given as given
 use Rattle.stores.proofs.shelf.Shelf.keep.Goals as goal
 
-pub returns-in-err-table : goal.returns-in-err-table
+pub returns-in_err-table : goal.returns-in_err-table
 unfolding after_keep
-returns-in-err-table g c =
+returns-in_err-table g c =
     let s = c.args.self.now in
-    let f = c.in-err-table.field-0.0 in
-    let not = keep_refused (g.S.Store.told s.below) (holds_in s.kept) c.args.name c.args.batch.now (shelf_refusal f) c.in-err-table.ensures in
+    let f = c.in_err-table.field-0.0 in
+    let not = keep_refused (g.S.Store.told s.below) (holds_in s.kept) c.args.name c.args.batch.now (shelf_refusal f) c.in_err-table.ensures in
     record {
-      answer = answered_err c.from-residual.result f c.from-residual.ensures.1 ∙ sym (ap refusal_of not);
+      answer = answered_err c.from_residual.result f c.from_residual.ensures.1 ∙ sym (ap refusal_of not);
       places = sym (ap (λ (o : Outcome Placing). after_keep o (holds_in s.kept)) not);
       below = refl;
       apart = kept_apart s.kept;
@@ -26,16 +26,16 @@ returns-in-err-table g c =
       visible = keep_visible;
     }
 
-pub returns-then-is-some : goal.returns-then-is-some
+pub returns-then-is_some : goal.returns-then-is_some
 unfolding after_keep held_as
-returns-then-is-some g c =
+returns-then-is_some g c =
     let s = c.args.self.now in
     let ts = g.S.Store.told s.below in
     let ps = holds_in s.kept in
-    let n = name_bytes c.in-ok-table.table.name in
-    let found : true ≡ is_some (shelf_number (g.S.Store.number s.below n) (place_holding ps n)) = c.if-is-some.ensures ∙ ap is_some c.find.ensures in
+    let n = name_bytes c.in_ok-table.table.name in
+    let found : true ≡ is_some (shelf_number (g.S.Store.number s.below n) (place_holding ps n)) = c.if-is_some.ensures ∙ ap is_some c.find.ensures in
     let told = shelf_found (g.S.Store.stands s.below) ps ts n (g.S.Store.number s.below n) true (g.met.S.Store.named s.below n) (g.met.S.Store.known s.below n) found in
-    let not = keep_told ts ps c.args.name c.args.batch.now (kept_as c.in-ok-table.table) c.in-ok-table.ensures told in
+    let not = keep_told ts ps c.args.name c.args.batch.now (kept_as c.in_ok-table.table) c.in_ok-table.ensures told in
     record {
       answer = sym (ap refusal_of not);
       places = sym (ap (λ (o : Outcome Placing). after_keep o ps) not);
@@ -45,16 +45,16 @@ returns-then-is-some g c =
       visible = keep_visible;
     }
 
-pub returns-in-default : goal.returns-in-default
+pub returns-in_default : goal.returns-in_default
 unfolding after_keep held_as
-returns-in-default g c =
+returns-in_default g c =
     let s = c.args.self.now in
     let ts = g.S.Store.told s.below in
     let ps = holds_in s.kept in
-    let n = name_bytes c.in-ok-table.table.name in
-    let found : false ≡ is_some (shelf_number (g.S.Store.number s.below n) (place_holding ps n)) = c.if-is-some.ensures ∙ ap is_some c.find.ensures in
+    let n = name_bytes c.in_ok-table.table.name in
+    let found : false ≡ is_some (shelf_number (g.S.Store.number s.below n) (place_holding ps n)) = c.if-is_some.ensures ∙ ap is_some c.find.ensures in
     let told = shelf_found (g.S.Store.stands s.below) ps ts n (g.S.Store.number s.below n) false (g.met.S.Store.named s.below n) (g.met.S.Store.known s.below n) found in
-    let not = keep_full ts ps c.args.name c.args.batch.now (kept_as c.in-ok-table.table) c.in-ok-table.ensures told (sym c.in-default.ensures) in
+    let not = keep_full ts ps c.args.name c.args.batch.now (kept_as c.in_ok-table.table) c.in_ok-table.ensures told (sym c.in_default.ensures) in
     record {
       answer = sym (ap refusal_of not);
       places = sym (ap (λ (o : Outcome Placing). after_keep o ps) not);
@@ -68,8 +68,8 @@ pub put-requires : goal.put-requires
 unfolding held_as
 put-requires g c =
     let s = c.args.self.now in
-    let n = name_bytes c.in-ok-table.table.name in
-    let found : false ≡ is_some (shelf_number (g.S.Store.number s.below n) (place_holding (holds_in s.kept) n)) = c.if-is-some.ensures ∙ ap is_some c.find.ensures in
+    let n = name_bytes c.in_ok-table.table.name in
+    let found : false ≡ is_some (shelf_number (g.S.Store.number s.below n) (place_holding (holds_in s.kept) n)) = c.if-is_some.ensures ∙ ap is_some c.find.ensures in
     (place_within s.kept is_free c.in-Some.place (sym c.in-Some.ensures), found_none (g.S.Store.number s.below n) (place_holding (holds_in s.kept) n) found)
 
 pub returns : goal.returns
@@ -78,10 +78,10 @@ returns g c =
     let s = c.args.self.now in
     let ts = g.S.Store.told s.below in
     let ps = holds_in s.kept in
-    let n = name_bytes c.in-ok-table.table.name in
-    let found : false ≡ is_some (shelf_number (g.S.Store.number s.below n) (place_holding ps n)) = c.if-is-some.ensures ∙ ap is_some c.find.ensures in
+    let n = name_bytes c.in_ok-table.table.name in
+    let found : false ≡ is_some (shelf_number (g.S.Store.number s.below n) (place_holding ps n)) = c.if-is_some.ensures ∙ ap is_some c.find.ensures in
     let told = shelf_found (g.S.Store.stands s.below) ps ts n (g.S.Store.number s.below n) false (g.met.S.Store.named s.below n) (g.met.S.Store.known s.below n) found in
-    let kept = keep_done ts ps c.args.name c.args.batch.now (kept_as c.in-ok-table.table) c.in-ok-table.ensures c.in-Some.place told (sym c.in-Some.ensures) in
+    let kept = keep_done ts ps c.args.name c.args.batch.now (kept_as c.in_ok-table.table) c.in_ok-table.ensures c.in-Some.place told (sym c.in-Some.ensures) in
     record {
       answer = sym (ap refusal_of kept);
       places = c.put.ensures ∙ sym (ap (λ (o : Outcome Placing). after_keep o ps) kept);

@@ -9,42 +9,42 @@ use Rattle.values.proofs.NameWords.{names_are_words}
 use Rattle.values.proofs.Operands.{bytes_typed}
 use Rattle.values.proofs.name.Name.new.Goals as goal
 
-pub returns-in-err-filled : goal.returns-in-err-filled
-returns-in-err-filled c =
+pub returns-in_err-filled : goal.returns-in_err-filled
+returns-in_err-filled c =
     let bs = c.args.bytes.now in
-    let long = leb-false (length bs) 16 (filled_if_none (leb (length bs) 16) bs c.in-err-filled.ensures) in
+    let long = leb-false (length bs) 16 (filled_if_none (leb (length bs) 16) bs c.in_err-filled.ensures) in
     record {
-      answer = ap (option_map name_bytes) c.from-residual.ensures ∙ sym (ap (λ (t : Bool). name_if t (filled bs)) (unlawful_long bs long));
+      answer = ap (option_map name_bytes) c.from_residual.ensures ∙ sym (ap (λ (t : Bool). name_if t (filled bs)) (unlawful_long bs long));
       rule = names_are_words;
     }
 
-pub returns-then-not-is-lawful : goal.returns-then-not-is-lawful
-returns-then-not-is-lawful c =
+pub returns-then-not-is_lawful : goal.returns-then-not-is_lawful
+returns-then-not-is_lawful c =
     let bs = c.args.bytes.now in
-    let ds = c.in-ok-filled.filled in
-    let same = filled_if_some (leb (length bs) 16) bs ds c.in-ok-filled.ensures in
+    let ds = c.in_ok-filled.filled in
+    let same = filled_if_some (leb (length bs) 16) bs ds c.in_ok-filled.ensures in
     record {
-      answer = sym (ap (λ (t : Bool). name_if t (filled bs)) (ap lawful_name (sym same.1) ∙ sym c.if-not-is-lawful.ensures));
+      answer = sym (ap (λ (t : Bool). name_if t (filled bs)) (ap lawful_name (sym same.1) ∙ sym c.if-not-is_lawful.ensures));
       rule = names_are_words;
     }
 
-pub invariant-of-result : goal.invariant-of-result
-invariant-of-result c =
+pub invariant_of-result : goal.invariant_of-result
+invariant_of-result c =
     let bs = c.args.bytes.now in
-    let ds = c.in-ok-filled.filled in
-    let held = text_held bs ds c.number-high.result c.number-low.result c.in-ok-filled.ensures (bytes_typed bs c.type-inv.bytes) c.number-high.ensures c.number-low.ensures in
-    let same = filled_if_some (leb (length bs) 16) bs ds c.in-ok-filled.ensures in
-    (ap lawful_name (held.1 ∙ sym same.1) ∙ sym c.if-not-is-lawful.ensures, tt)
+    let ds = c.in_ok-filled.filled in
+    let held = text_held bs ds c.number-high.result c.number-low.result c.in_ok-filled.ensures (bytes_typed bs c.type_inv.bytes) c.number-high.ensures c.number-low.ensures in
+    let same = filled_if_some (leb (length bs) 16) bs ds c.in_ok-filled.ensures in
+    record { lawful = ap lawful_name (held.1 ∙ sym same.1) ∙ sym c.if-not-is_lawful.ensures }
 
 pub returns : goal.returns
 unfolding name_bytes
 returns c =
     let bs = c.args.bytes.now in
-    let ds = c.in-ok-filled.filled in
-    let held = text_held bs ds c.number-high.result c.number-low.result c.in-ok-filled.ensures (bytes_typed bs c.type-inv.bytes) c.number-high.ensures c.number-low.ensures in
-    let same = filled_if_some (leb (length bs) 16) bs ds c.in-ok-filled.ensures in
+    let ds = c.in_ok-filled.filled in
+    let held = text_held bs ds c.number-high.result c.number-low.result c.in_ok-filled.ensures (bytes_typed bs c.type_inv.bytes) c.number-high.ensures c.number-low.ensures in
+    let same = filled_if_some (leb (length bs) 16) bs ds c.in_ok-filled.ensures in
     let lawful : lawful_name (filled bs) ≡ lawful_name ds = ap lawful_name (sym same.1) in
     record {
-      answer = ap (λ (cs : List ℕ). Some cs) held.1 ∙ sym (ap (λ (t : Bool). name_if t (filled bs)) (lawful ∙ sym c.if-not-is-lawful.ensures));
+      answer = ap (λ (cs : List ℕ). Some cs) held.1 ∙ sym (ap (λ (t : Bool). name_if t (filled bs)) (lawful ∙ sym c.if-not-is_lawful.ensures));
       rule = names_are_words;
     }

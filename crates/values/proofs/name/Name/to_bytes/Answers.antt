@@ -10,6 +10,6 @@ pub returns : goal.returns
 unfolding name_bytes text_of
 returns c =
     let n = c.args.self in
-    eight_array c.to-be-bytes.result n.high (eight_of c.to-be-bytes-2.result []) c.to-be-bytes.ensures ∙
+    eight_array c.to_be_bytes.result n.high (eight_of c.to_be_bytes-2.result []) c.to_be_bytes.ensures ∙
     ap (λ (zs : List ℕ). bytes_of 8 n.high ++ zs)
-    (eight_array c.to-be-bytes-2.result n.low [] c.to-be-bytes-2.ensures ∙ append-nil (bytes_of 8 n.low))
+    (eight_array c.to_be_bytes-2.result n.low [] c.to_be_bytes-2.ensures ∙ append-nil (bytes_of 8 n.low))

@@ -8,5 +8,5 @@ unfolding name_bytes
 returns c =
     let n = c.args.self.now in
     let m = c.args.other.now in
-    c.both-same.ensures ∙
+    c.both_same.ensures ∙
     same_texts_test n.high n.low m.high m.low (omega arith) (omega arith) (omega arith) (omega arith)

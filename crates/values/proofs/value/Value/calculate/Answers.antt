@@ -10,6 +10,6 @@ pub returns-in-Real-Real : goal.returns-in-Real-Real
 unfolding calculated
 returns-in-Real-Real c = search rules
 
-pub returns-in-default : goal.returns-in-default
+pub returns-in_default : goal.returns-in_default
 unfolding calculated
-returns-in-default c = search rules
+returns-in_default c = search rules

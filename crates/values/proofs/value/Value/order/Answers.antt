@@ -24,21 +24,21 @@ returns-in-Real-Real c = search rules
 pub returns-in-Text-Text : goal.returns-in-Text-Text
 unfolding order_of
 returns-in-Text-Text c =
-    ap Some c.order-of-texts.ensures ∙
+    ap Some c.order_of_texts.ensures ∙
     sym (texts_order c.args.self c.args.other c.in-Text-Text.is-0 c.in-Text-Text.is-1)
 
-pub returns-in-default : goal.returns-in-default
+pub returns-in_default : goal.returns-in_default
 unfolding order_of
-returns-in-default c = search rules
+returns-in_default c = search rules
 
-pub returns-in-default·2 : goal.returns-in-default·2
+pub returns-in_default-2 : goal.returns-in_default-2
 unfolding order_of
-returns-in-default·2 c = search rules
+returns-in_default-2 c = search rules
 
-pub returns-in-default·3 : goal.returns-in-default·3
+pub returns-in_default-3 : goal.returns-in_default-3
 unfolding order_of
-returns-in-default·3 c = search rules
+returns-in_default-3 c = search rules
 
-pub returns-in-default·4 : goal.returns-in-default·4
+pub returns-in_default-4 : goal.returns-in_default-4
 unfolding order_of
-returns-in-default·4 c = search rules
+returns-in_default-4 c = search rules

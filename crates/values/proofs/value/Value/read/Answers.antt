@@ -12,7 +12,7 @@ returns-in-16 c =
     let bs = c.args.bytes.now in
     record {
       answer =
-          c.read-null.ensures ∙ sym (decoded_by bs c.if-bytes-ne17.false ∙ ap (λ (b : ℕ). operand_cell b (take 16 (drop 1 bs))) c.in-16.is);
+          c.read_null.ensures ∙ sym (decoded_by bs c.if-bytes-ne17.false ∙ ap (λ (b : ℕ). operand_cell b (take 16 (drop 1 bs))) c.in-16.is);
       back = encoded_decoded;
     }
 
@@ -21,7 +21,7 @@ returns-in-17 c =
     let bs = c.args.bytes.now in
     record {
       answer =
-          c.read-integer.ensures ∙ sym (decoded_by bs c.if-bytes-ne17.false ∙ ap (λ (b : ℕ). operand_cell b (take 16 (drop 1 bs))) c.in-17.is);
+          c.read_integer.ensures ∙ sym (decoded_by bs c.if-bytes-ne17.false ∙ ap (λ (b : ℕ). operand_cell b (take 16 (drop 1 bs))) c.in-17.is);
       back = encoded_decoded;
     }
 
@@ -30,7 +30,7 @@ returns-in-18 c =
     let bs = c.args.bytes.now in
     record {
       answer =
-          c.read-real.ensures ∙ sym (decoded_by bs c.if-bytes-ne17.false ∙ ap (λ (b : ℕ). operand_cell b (take 16 (drop 1 bs))) c.in-18.is);
+          c.read_real.ensures ∙ sym (decoded_by bs c.if-bytes-ne17.false ∙ ap (λ (b : ℕ). operand_cell b (take 16 (drop 1 bs))) c.in-18.is);
       back = encoded_decoded;
     }
 
@@ -45,8 +45,8 @@ returns-in-19 c =
       back = encoded_decoded;
     }
 
-pub returns-in-default : goal.returns-in-default
-returns-in-default c =
+pub returns-in_default : goal.returns-in_default
+returns-in_default c =
     let bs = c.args.bytes.now in
     record {
       answer =

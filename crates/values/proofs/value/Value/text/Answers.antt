@@ -7,16 +7,16 @@ use Rattle.values.specs.Names.{filled}
 use Rattle.values.proofs.Filled.{bytes_printable, text_held, filled_printable}
 use Rattle.values.proofs.value.Value.text.Goals as goal
 
-pub invariant-of-result : goal.invariant-of-result
-invariant-of-result c =
-    let p = sym c.if-not-all-printable.ensures in
-    let held = text_held c.args.bytes.now c.in-ok-filled.filled c.number-high.result c.number-low.result c.in-ok-filled.ensures (bytes_printable c.args.bytes.now p) c.number-high.ensures c.number-low.ensures in
-    (ap (each printable) held.1 ∙ filled_printable c.args.bytes.now p, tt)
+pub invariant_of-result : goal.invariant_of-result
+invariant_of-result c =
+    let p = sym c.if-not-all_printable.ensures in
+    let held = text_held c.args.bytes.now c.in_ok-filled.filled c.number-high.result c.number-low.result c.in_ok-filled.ensures (bytes_printable c.args.bytes.now p) c.number-high.ensures c.number-low.ensures in
+    record { kept = ap (each printable) held.1 ∙ filled_printable c.args.bytes.now p }
 
 pub returns : goal.returns
 returns c =
     let bs = c.args.bytes.now in
-    let p = sym c.if-not-all-printable.ensures in
-    let held = text_held bs c.in-ok-filled.filled c.number-high.result c.number-low.result c.in-ok-filled.ensures (bytes_printable c.args.bytes.now p) c.number-high.ensures c.number-low.ensures in
+    let p = sym c.if-not-all_printable.ensures in
+    let held = text_held bs c.in_ok-filled.filled c.number-high.result c.number-low.result c.in_ok-filled.ensures (bytes_printable c.args.bytes.now p) c.number-high.ensures c.number-low.ensures in
     ap (λ (ds : List ℕ). Some (text ds)) held.1 ∙
     sym (ap (λ (t : Bool). given t (text (filled bs))) (and_from (leb (length bs) 16) (each printable bs) held.0 p))

@@ -9,8 +9,8 @@ use Rattle.values.proofs.Codec.{decoded_encoded}
 use Rattle.values.proofs.Operands.{cell_at}
 use Rattle.values.proofs.value.Value.to_bytes.Goals as goal
 
-pub real-bytes-requires : goal.real-bytes-requires
-real-bytes-requires c =
+pub real_bytes-requires : goal.real_bytes-requires
+real_bytes-requires c =
     let v = c.args.self in
     subst (λ (k : Kind). kept k v.real v.high v.low ≡ true) c.in-Real.is v.kept
 
@@ -23,12 +23,12 @@ returns-in-Integer c =
     let v = c.args.self in
     let f : SFits w32 v.integer = search rules in
     record {
-      answer = c.integer-bytes.ensures ∙ (ap (λ n. encoded (integer n)) (to_z-of_z w32 v.integer f) ∙ sym (ap encoded (cell_at v Integer c.in-Integer.is)));
+      answer = c.integer_bytes.ensures ∙ (ap (λ n. encoded (integer n)) (to_z-of_z w32 v.integer f) ∙ sym (ap encoded (cell_at v Integer c.in-Integer.is)));
       back = decoded_encoded;
     }
 
 pub returns-in-Real : goal.returns-in-Real
-returns-in-Real c = record { answer = c.real-bytes.ensures ∙ sym (ap encoded (cell_at c.args.self Real c.in-Real.is)); back = decoded_encoded }
+returns-in-Real c = record { answer = c.real_bytes.ensures ∙ sym (ap encoded (cell_at c.args.self Real c.in-Real.is)); back = decoded_encoded }
 
 pub returns-in-Text : goal.returns-in-Text
-returns-in-Text c = record { answer = c.text-bytes.ensures ∙ sym (ap encoded (cell_at c.args.self Text c.in-Text.is)); back = decoded_encoded }
+returns-in-Text c = record { answer = c.text_bytes.ensures ∙ sym (ap encoded (cell_at c.args.self Text c.in-Text.is)); back = decoded_encoded }
