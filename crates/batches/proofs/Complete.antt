@@ -1,6 +1,6 @@
 -- What the format says stands for tables is read as those tables.
 use Rattle.std.proofs.Common.{◌≡◌, ℕ, suc, ◌+◌, ◌<◌, ◌≤◌, true, false, ◌&&◌, eqb, ltb, List, [], ◌∷◌, ◌++◌, length, get_or, take, Some, sym, refl, ap, ◌∙◌, subst, inl, inr, append_assoc, append-nil, arith}
-use Rattle.std.specs.List.{flat_map, AllByRecursion as All}
+use Rattle.std.specs.List.{flat_map, AllByRecursion}
 use Rattle.std.proofs.lemmas.List.{take_at, get_or_push, length-append, length_push}
 use Rattle.std.proofs.lemmas.Bool.{eqb-true, eq-eqb, ne_eqb, lt-ltb, or_cases, or_left, or_right, and_parts, and_from}
 use Rattle.values.specs.Cells.{Cell}
@@ -31,7 +31,7 @@ column_leads ts n gs h l =
     k ∙ w
 
 -- the columns
-pub column_moves : {v : State} (ts : Told) (n : List ℕ) (gs hs : List Heading) (bs : List ℕ) → All (λ h. lawful_name h.name ≡ true) hs → length (gs ++ hs) ≤ 8 → Moves (at ts (columns n (gs ++ hs))) bs v → Moves (at ts (columns n gs)) (flat_map column_bytes hs ++ bs) v
+pub column_moves : {v : State} (ts : Told) (n : List ℕ) (gs hs : List Heading) (bs : List ℕ) → AllByRecursion (λ h. lawful_name h.name ≡ true) hs → length (gs ++ hs) ≤ 8 → Moves (at ts (columns n (gs ++ hs))) bs v → Moves (at ts (columns n gs)) (flat_map column_bytes hs ++ bs) v
 column_moves {v} ts n gs [] bs l few m = subst (λ x. Moves (at ts (columns n x)) bs v) (append-nil gs) m
 column_moves {v} ts n gs (h ∷ hs) bs l few m =
     let e : (gs ++ h ∷ []) ++ hs ≡ gs ++ h ∷ hs = append_assoc gs (h ∷ []) hs in

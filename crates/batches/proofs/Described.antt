@@ -3,7 +3,7 @@ use Rattle.std.proofs.Common.{◌≡◌, ℕ, zero, suc, ◌+◌, ◌*◌, ◌<�
 use Rattle.std.proofs.ByRecursion.{All-weaker}
 use Rattle.std.proofs.lemmas.List.{length-append}
 use Rattle.std.proofs.lemmas.Bool.{cases_eq}
-use Rattle.std.specs.List.{slice_get, flat_map, AllByRecursion as All}
+use Rattle.std.specs.List.{slice_get, flat_map, AllByRecursion}
 use Rattle.std.specs.Option.{option_map}
 use Rattle.std.specs.Bool.{then_some}
 use Rattle.values.proofs.Codec.{decoded_lawful}
@@ -21,12 +21,12 @@ use Rattle.batches.specs.Written.{BodyFits}
 use Rattle.batches.proofs.Exactly.{reads_exactly}
 
 -- what holds of each element of two lists joined holds of each of theirs
-all_parts : {X : Type 0} (P : X → Type 0) (xs ys : List X) → All P (xs ++ ys) → All P xs × All P ys
+all_parts : {X : Type 0} (P : X → Type 0) (xs ys : List X) → AllByRecursion P (xs ++ ys) → AllByRecursion P xs × AllByRecursion P ys
 all_parts P [] ys h = (tt, h)
 all_parts P (x ∷ xs) ys h = let k = all_parts P xs ys h.1 in ((h.0, k.0), k.1)
 
 abbrev Bytes : List ℕ → Type 0
-Bytes = All (λ b. b < 256)
+Bytes = AllByRecursion (λ b. b < 256)
 
 -- only seventeen bytes stand for a cell
 cell_length : (bs : List ℕ) (c : Cell) → decoded bs ≡ Some c → length bs ≡ 17
@@ -45,7 +45,7 @@ row_long (IsRow.cell bs {ds} {c} e f r) =
     let l = cell_length bs c e in
     simp length-append (omega arith)
 
-rows_fit : {hs : List Heading} {bs : List ℕ} {rs : List (List Cell)} → IsRows hs bs rs → Bytes bs → All (RowFits hs) rs
+rows_fit : {hs : List Heading} {bs : List ℕ} {rs : List (List Cell)} → IsRows hs bs rs → Bytes bs → AllByRecursion (RowFits hs) rs
 rows_fit IsRows.ended b = tt
 rows_fit (IsRows.row {bs} {ds} r rs) b =
     let p = all_parts (λ b. b < 256) bs ds b in
@@ -78,7 +78,7 @@ table_fine (IsTable.table {n} {hs} {bs} {rs} l h r) b s =
     let m : suc (length n + (length (flat_map column_bytes hs) + (length bs + 1))) ≤ longest = simp length-append at s in
     record { name = l; headings = h; fitting = rows_fit r i.0; short = omega arith }
 
-tables_fine : {bs : List ℕ} {ts : Told} → IsTables bs ts → Bytes bs → length bs ≤ longest → All Fine ts
+tables_fine : {bs : List ℕ} {ts : Told} → IsTables bs ts → Bytes bs → length bs ≤ longest → AllByRecursion Fine ts
 tables_fine IsTables.ended b s = tt
 tables_fine (IsTables.table {bs} {ds} t ts) b s =
     let p = all_parts (λ b. b < 256) bs ds b in
@@ -99,13 +99,13 @@ tables_described bs ts b e =
     }
 
 -- what holds of each element holds of the one at a place
-pub all_nth : {X : Type 0} (P : X → Type 0) (xs : List X) (i : ℕ) (x : X) → All P xs → slice_get xs i ≡ Some x → P x
+pub all_nth : {X : Type 0} (P : X → Type 0) (xs : List X) (i : ℕ) (x : X) → AllByRecursion P xs → slice_get xs i ≡ Some x → P x
 all_nth P [] i x h e = absurd (let z : ◌≡◌ {A = ℕ} 0 1 = cc in omega arith)
 all_nth P (y ∷ ys) zero x h e = let k : y ≡ x = cc in rw k at h.0
 all_nth P (y ∷ ys) (suc i) x h e = all_nth P ys i x h.1 e
 
 -- of lawfully named tables each name is told
-pub names_told : (ts : Told) (t : ℕ) → All (λ t. lawful_name t.name ≡ true) ts → name_asked ts t ≡ option_map (λ n. n.name) (slice_get ts t)
+pub names_told : (ts : Told) (t : ℕ) → AllByRecursion (λ t. lawful_name t.name ≡ true) ts → name_asked ts t ≡ option_map (λ n. n.name) (slice_get ts t)
 unfolding name_asked
 names_told ts t h = by_table (slice_get ts t) refl
   where
@@ -115,7 +115,7 @@ names_told ts t h = by_table (slice_get ts t) refl
         ap (λ (b : Bool). then_some b n.name) (all_nth (λ t. lawful_name t.name ≡ true) ts t n h e)
 
 -- and of lawful headings each column
-pub columns_told : (ts : Told) (t i : ℕ) → All (λ t. LawfulHeadings t.table.headings) ts → column_asked ts t i ≡ chained (slice_get ts t) (λ n. slice_get n.table.headings i)
+pub columns_told : (ts : Told) (t i : ℕ) → AllByRecursion (λ t. LawfulHeadings t.table.headings) ts → column_asked ts t i ≡ chained (slice_get ts t) (λ n. slice_get n.table.headings i)
 unfolding column_asked
 columns_told ts t i h = by_table (slice_get ts t) refl
   where

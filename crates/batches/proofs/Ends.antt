@@ -1,13 +1,13 @@
 -- The checker takes an end just as the reading does. Assumes nothing.
-use Rattle.std.proofs.Common.{◌≡◌, ℕ, ◌+◌, ◌*◌, ◌<◌, ◌≤◌, Bool, true, false, ◌&&◌, ◌||◌, eqb, ltb, ◌⊎◌, List, [], ◌∷◌, ◌++◌, map, length, get_or, take, drop, set, Some, sym, refl, ap, ◌∙◌, subst, ap₂, inl, inr, mul-zero, arith}
+use Rattle.std.proofs.Common.{◌≡◌, ℕ, ◌+◌, ◌*◌, ◌<◌, ◌≤◌, Bool, true, false, ◌||◌, eqb, ltb, ◌⊎◌, List, [], ◌∷◌, ◌++◌, length, get_or, take, drop, set, sym, refl, ap, ◌∙◌, subst, ap₂, inl, inr, mul-zero, arith}
 use Rattle.std.proofs.lemmas.Nat.{mul-le}
 use Rattle.std.proofs.ByRecursion.{All-push}
 use Rattle.std.proofs.lemmas.List.{take_more_set}
 use Rattle.std.proofs.lemmas.Bool.{eq-eqb, ne_eqb, lt-ltb}
-use Rattle.std.specs.List.{AllByRecursion as All}
-use Rattle.batches.specs.Checking.{InTable, Placed, PlacedAt, row_from, state_of, step_at}
+use Rattle.std.specs.List.{AllByRecursion}
+use Rattle.batches.specs.Checking.{InTable, Placed, PlacedAt, row_from, step_at}
 use Rattle.batches.specs.Layouts.{Lies, cells_from, headings_at, cells_at, rows_at, slice_at, table_at, told_by}
-use Rattle.batches.specs.Reading.{State, Step, goes, stops, step, may_stand, ending, between}
+use Rattle.batches.specs.Reading.{State, goes, stops, may_stand, ending, between}
 use Rattle.batches.specs.declared.checker.Checker.{Checker}
 use Rattle.batches.specs.declared.checker.Stage.{Stage as Expects}
 use Rattle.batches.specs.declared.checker.Stage.TheVariants.{Between, Columns, Cells}
@@ -81,8 +81,8 @@ closing_lies bs c p t l z = go c.stage p.stands t
         record { lies = omega arith }
     go Cells s u = record { lies = omega arith }
 
-pub inside_more : (bs : List ℕ) (ls : List Layout) (n : ℕ) (l : Layout) → n < length ls → All (Lies bs) (take n ls) → Lies bs l → All (Lies bs) (take (n + 1) (set ls n l))
-inside_more bs ls n l h p q = subst (All (Lies bs)) (sym (take_more_set ls n l h)) (All-push (Lies bs) (take n ls) l p q)
+pub inside_more : (bs : List ℕ) (ls : List Layout) (n : ℕ) (l : Layout) → n < length ls → AllByRecursion (Lies bs) (take n ls) → Lies bs l → AllByRecursion (Lies bs) (take (n + 1) (set ls n l))
+inside_more bs ls n l h p q = subst (AllByRecursion (Lies bs)) (sym (take_more_set ls n l h)) (All-push (Lies bs) (take n ls) l p q)
 
 -- a table in progress leaves room in the catalog
 pub room_left : (bs : List ℕ) (c : Checker) → Placed bs c → InTable c.stage → c.catalog.count < 8

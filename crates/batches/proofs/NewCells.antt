@@ -1,7 +1,7 @@
 -- The checker takes a cell just as the reading does. Assumes nothing.
-use Rattle.std.proofs.Common.{◌≡◌, ℕ, zero, suc, ◌+◌, ◌-◌, ◌*◌, ◌<◌, ◌≤◌, Bool, true, false, cond, ◌&&◌, ◌||◌, eqb, ltb, List, [], ◌∷◌, ◌++◌, length, get_or, take, drop, Some, None, Option, unwrap_or, sym, refl, ap, ◌∙◌, subst, ap₂, mul-zero, mul-one, mul-add, arith}
+use Rattle.std.proofs.Common.{◌≡◌, ℕ, zero, suc, ◌+◌, ◌-◌, ◌*◌, ◌<◌, ◌≤◌, Bool, true, false, ◌&&◌, ◌||◌, eqb, ltb, List, [], ◌∷◌, ◌++◌, length, get_or, take, drop, Some, None, Option, unwrap_or, sym, refl, ap, ◌∙◌, ap₂, mul-zero, mul-one, mul-add, arith}
 use Rattle.std.proofs.lemmas.List.FromFn.{get_or-map-range_with_len}
-use Rattle.std.proofs.lemmas.List.{drop_more, length-drop, length_push}
+use Rattle.std.proofs.lemmas.List.{drop_more, length-drop}
 use Rattle.std.proofs.lemmas.Bool.{cond-false, cond-true, eq-eqb, ne_eqb}
 use Rattle.values.specs.Cells.{Cell, null}
 use Rattle.values.specs.Codes.{byte_fits, decoded}
@@ -9,13 +9,13 @@ use Rattle.values.specs.declared.kinds.ColumnType.{ColumnType}
 use Rattle.batches.specs.Checking.{CellByte, InTable, Placed, PlacedAt, row_from, state_of, step_at}
 use Rattle.batches.specs.Format.{operand_length}
 use Rattle.batches.specs.Layouts.{cell_at, cells_at, cells_from, heading_at, headings_at, rows_at, slice_at, told_by, type_at}
-use Rattle.batches.specs.Reading.{Stage, cells, State, Step, goes, stops, step, may_stand, after, after_cell, with_cell, cell_may}
+use Rattle.batches.specs.Reading.{Stage, cells, State, goes, stops, step, may_stand, after, after_cell, with_cell, cell_may}
 use Rattle.batches.specs.Tables.{Heading}
 use Rattle.batches.specs.declared.checker.Checker.{Checker}
 use Rattle.batches.specs.declared.checker.Stage.{Stage as Expects}
 use Rattle.batches.specs.declared.checker.Stage.TheVariants.{Between, Columns, Cells}
 use Rattle.batches.proofs.Commands.{cell_operand, fits_is_cell}
-use Rattle.batches.proofs.Stages.{state_at, state_is, step_is, length_headings, length_cells, cells_more, rows_more, bytes_left}
+use Rattle.batches.proofs.Stages.{state_at, step_is, length_headings, length_cells, cells_more, rows_more, bytes_left}
 use Rattle.batches.proofs.StepBy.{byte_refused, cut_short, operand_refused, taken_on}
 
 -- a cell's command under a heading that there is not, and under one that there is

@@ -1,17 +1,16 @@
 -- The checker takes a column just as the reading does. Assumes nothing.
-use Rattle.std.proofs.Common.{◌≡◌, ℕ, ◌+◌, ◌-◌, ◌*◌, ◌<◌, ◌≤◌, Bool, true, false, cond, ◌||◌, eqb, ltb, ◌⊎◌, List, [], ◌∷◌, ◌++◌, length, get_or, take, drop, Some, None, Option, sym, refl, ap, ◌∙◌, subst, ap₂, inl, inr, arith}
+use Rattle.std.proofs.Common.{◌≡◌, ℕ, ◌+◌, ◌-◌, ◌<◌, ◌≤◌, Bool, true, false, cond, ◌||◌, eqb, ltb, ◌⊎◌, List, [], ◌∷◌, ◌++◌, length, get_or, take, drop, Some, None, Option, sym, refl, ap, ◌∙◌, subst, ap₂, inl, inr, arith}
 use Rattle.std.proofs.lemmas.List.{get_or-drop, get_or-take, length-drop, take-take}
-use Rattle.std.proofs.lemmas.Bool.{le-ltb, lt-ltb, eqb-true}
+use Rattle.std.proofs.lemmas.Bool.{le-ltb, lt-ltb}
 use Rattle.values.specs.Codes.{type_of}
 use Rattle.values.specs.Names.{lawful_name}
 use Rattle.values.specs.declared.kinds.ColumnType.{ColumnType}
 use Rattle.values.specs.declared.kinds.ColumnType.TheVariants.{Integer, Real, Text}
 use Rattle.batches.specs.Checking.{Placed, PlacedAt, state_of, step_at}
 use Rattle.batches.specs.Layouts.{cells_from, heading_at, headings_at, slice_at, told_by, type_at}
-use Rattle.batches.specs.Reading.{State, Step, goes, stops, step, may_stand, after, columns, with_type}
+use Rattle.batches.specs.Reading.{State, goes, stops, may_stand, after, columns, with_type}
 use Rattle.batches.specs.Tables.{Heading, Told}
 use Rattle.batches.specs.declared.checker.Checker.{Checker}
-use Rattle.batches.specs.declared.checker.Stage.{Stage as Expects}
 use Rattle.batches.specs.declared.checker.Stage.TheVariants.{Columns}
 use Rattle.batches.proofs.Stages.{state_at, state_is, step_is, length_headings, headings_more, no_cell_column, bytes_left, or_none}
 use Rattle.batches.proofs.StepBy.{byte_refused, cut_short, operand_refused, taken_on}

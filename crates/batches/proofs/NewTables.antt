@@ -1,5 +1,5 @@
 -- The checker takes a table's command just as the reading does. Assumes nothing.
-use Rattle.std.proofs.Common.{◌≡◌, ℕ, suc, ◌+◌, ◌-◌, ◌*◌, ◌<◌, ◌≤◌, Bool, true, false, cond, not, ◌&&◌, ◌||◌, ltb, ◌⊎◌, List, [], ◌∷◌, map, length, get_or, take, drop, is_some, Some, None, Option, sym, refl, ap, ◌∙◌, ap₂, inl, inr, arith}
+use Rattle.std.proofs.Common.{◌≡◌, ℕ, suc, ◌+◌, ◌-◌, ◌<◌, ◌≤◌, Bool, true, false, cond, not, ◌&&◌, ◌||◌, ltb, ◌⊎◌, List, [], ◌∷◌, length, get_or, take, drop, is_some, Some, None, Option, sym, refl, ap, ◌∙◌, inl, inr, arith}
 use Rattle.std.proofs.lemmas.List.{length-drop, length-map}
 use Rattle.std.proofs.lemmas.Bool.{and_from, and_left, and_right, cond-false, cond-true, le-ltb, lt-ltb}
 use Rattle.std.specs.Option.{option_map}
@@ -10,10 +10,9 @@ use Rattle.values.specs.Names.{lawful_name}
 use Rattle.values.specs.declared.name.Name.{Name}
 use Rattle.batches.specs.Checking.{Placed, state_of, step_at}
 use Rattle.batches.specs.Layouts.{headings_at, place_of, slice_at, table_at, told_by}
-use Rattle.batches.specs.Reading.{State, Step, goes, stops, step, may_stand, columns, taken}
-use Rattle.batches.specs.Tables.{Named, Told}
+use Rattle.batches.specs.Reading.{goes, stops, step, may_stand, taken}
+use Rattle.batches.specs.Tables.{Told}
 use Rattle.batches.specs.declared.checker.Checker.{Checker}
-use Rattle.batches.specs.declared.checker.Stage.{Stage as Expects}
 use Rattle.batches.specs.declared.checker.Stage.TheVariants.{Between, Columns}
 use Rattle.batches.proofs.Lookup.{listed}
 use Rattle.batches.proofs.Stages.{state_at, step_is, bytes_left}

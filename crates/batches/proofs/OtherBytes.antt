@@ -1,14 +1,13 @@
 -- Bytes that no stage takes. Assumes nothing.
-use Rattle.std.proofs.Common.{◌≡◌, ℕ, ◌+◌, ◌<◌, ◌≤◌, Bool, true, false, ◌&&◌, ◌||◌, eqb, ltb, List, length, get_or, drop, sym, refl, ap, ◌∙◌, ap₂, arith}
+use Rattle.std.proofs.Common.{◌≡◌, ℕ, ◌+◌, Bool, true, false, ◌&&◌, ◌||◌, eqb, ltb, List, length, get_or, drop, refl, ap, ◌∙◌, ap₂, arith}
 use Rattle.std.proofs.lemmas.Bool.{cond-false, ne_eqb}
 use Rattle.values.specs.Codes.{byte_fits}
 use Rattle.values.specs.declared.kinds.ColumnType.{ColumnType}
 use Rattle.values.specs.declared.kinds.ColumnType.TheVariants.{Integer, Real, Text}
 use Rattle.batches.specs.Checking.{CellByte, row_from, step_at}
 use Rattle.batches.specs.Layouts.{cells_at, headings_at, told_by}
-use Rattle.batches.specs.Reading.{Step, stops, cell_may}
+use Rattle.batches.specs.Reading.{stops, cell_may}
 use Rattle.batches.specs.declared.checker.Checker.{Checker}
-use Rattle.batches.specs.declared.checker.Stage.{Stage as Expects}
 use Rattle.batches.specs.declared.checker.Stage.TheVariants.{Between, Columns, Cells}
 use Rattle.batches.proofs.Stages.{state_at, step_is, no_cell}
 use Rattle.batches.proofs.StepBy.{byte_refused}

@@ -1,9 +1,9 @@
 -- The run of the reading, one command at a time. Assumes nothing.
-use Rattle.std.proofs.Common.{◌≡◌, ℕ, zero, suc, ◌+◌, ◌<◌, ◌≤◌, Bool, true, false, cond, ltb, List, [], ◌∷◌, length, get_or, drop, sym, refl, ap, ◌∙◌, subst, ap₂, arith}
+use Rattle.std.proofs.Common.{◌≡◌, ℕ, zero, suc, ◌+◌, ◌<◌, ◌≤◌, List, [], ◌∷◌, length, get_or, drop, sym, refl, ap, ◌∙◌, arith}
 use Rattle.std.proofs.lemmas.List.{drop_all, drop-drop, drop_more, length-drop}
 use Rattle.std.proofs.lemmas.Bool.{cond-false, cond-true, le-ltb, lt-ltb}
 use Rattle.batches.specs.Checking.{state_of, step_at}
-use Rattle.batches.specs.Reading.{Reading, tables, refused, State, Step, goes, stops, step, run, close, reading, start, longest}
+use Rattle.batches.specs.Reading.{Reading, refused, State, Step, goes, stops, step, run, close, reading, start, longest}
 use Rattle.batches.specs.declared.checker.Checker.{Checker}
 
 -- what follows a step

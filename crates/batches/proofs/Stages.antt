@@ -1,15 +1,14 @@
 -- The state of the reading that the checker's fields stand for, stage by stage. Assumes nothing.
-use Rattle.std.proofs.Common.{◌≡◌, ℕ, zero, suc, ◌+◌, ◌*◌, ◌<◌, Bool, true, false, ◌||◌, eqb, List, [], ◌∷◌, ◌++◌, map, length, get_or, take, drop, set, sym, refl, ap, ◌∙◌, ap₂, zero-add, arith}
+use Rattle.std.proofs.Common.{◌≡◌, ℕ, zero, suc, ◌+◌, ◌*◌, ◌<◌, Bool, true, false, ◌||◌, List, [], ◌∷◌, ◌++◌, map, length, get_or, take, drop, set, refl, ap, ◌∙◌, ap₂, zero-add, arith}
 use Rattle.std.proofs.lemmas.List.FromFn.{length-map-range_with_len, map-range_with_len_more}
 use Rattle.std.proofs.lemmas.List.{length-drop, take_more_set, map_push}
 use Rattle.values.specs.Codes.{byte_fits}
-use Rattle.values.specs.Cells.{Cell}
 use Rattle.values.specs.declared.kinds.ColumnType.{ColumnType}
 use Rattle.values.specs.declared.kinds.ColumnType.TheVariants.{Integer, Real, Text}
 use Rattle.batches.specs.Checking.{stage_by, state_of, step_at}
 use Rattle.batches.specs.Layouts.{heading_at, headings_at, cell_at, cells_at, rows_at, table_at, told_by}
-use Rattle.batches.specs.Reading.{State, Step, step, cell_may}
-use Rattle.batches.specs.Tables.{Heading, Named, Told}
+use Rattle.batches.specs.Reading.{State, step, cell_may}
+use Rattle.batches.specs.Tables.{Heading}
 use Rattle.batches.specs.declared.checker.Checker.{Checker}
 use Rattle.batches.specs.declared.checker.Stage.{Stage as Expects}
 use Rattle.batches.specs.declared.layout.Layout.{Layout}

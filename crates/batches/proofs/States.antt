@@ -1,6 +1,6 @@
 -- The commands that move from one state to the next, written out, and what holds of every state that is reached.
 use Rattle.std.proofs.Common.{◌≡◌, ℕ, ◌<◌, ◌≤◌, true, false, not, ◌&&◌, ◌||◌, eqb, ltb, List, [], ◌∷◌, ◌++◌, length, get_or, take, Some, None, Option, sym, refl, ap, ◌∙◌, subst, inl, inr, arith, lit≤}
-use Rattle.std.specs.List.{AllByRecursion as All}
+use Rattle.std.specs.List.{AllByRecursion}
 use Rattle.std.proofs.ByRecursion.{All-push}
 use Rattle.std.proofs.lemmas.List.{length_push, length-append, length-take-le, take_more, take_all}
 use Rattle.std.proofs.lemmas.Bool.{eqb-true, eqb-false, ltb-true, or_cases, and_parts, cases_Bool, not-true}
@@ -34,7 +34,7 @@ pub record Headed (ts : Told) (n : List ℕ) (hs : List Heading) : Type 0 where
   pub lawful : lawful_name n ≡ true
   pub free : taken n ts ≡ false
   pub few : length hs ≤ 8
-  pub all : All (λ h. lawful_name h.name ≡ true) hs
+  pub all : AllByRecursion (λ h. lawful_name h.name ≡ true) hs
 
 -- what holds of every state that is reached
 abbrev pub Fine : Told → Stage → Type 0

@@ -1,6 +1,6 @@
 -- What is written of tables is read back as the same tables.
 use Rattle.std.proofs.Common.{◌≡◌, ℕ, true, List, [], ◌∷◌, Some}
-use Rattle.std.specs.List.{flat_map, AllByRecursion as All}
+use Rattle.std.specs.List.{flat_map, AllByRecursion}
 use Rattle.values.specs.Cells.{Cell, lawful_cell}
 use Rattle.values.specs.Codes.{decoded, encoded}
 use Rattle.values.specs.Names.{lawful_name}
@@ -18,7 +18,7 @@ module _ (round : (c : Cell) → lawful_cell c ≡ true → decoded (encoded c) 
   row_written (h ∷ hs) [] f = absurd f
   row_written (h ∷ hs) (c ∷ cs) f = IsRow.cell (encoded c) (round c f.0) f.1 (row_written hs cs f.2)
 
-  rows_written_lem : (hs : List Heading) (rs : List (List Cell)) → All (RowFits hs) rs → IsRows hs (flat_map (flat_map encoded) rs) rs
+  rows_written_lem : (hs : List Heading) (rs : List (List Cell)) → AllByRecursion (RowFits hs) rs → IsRows hs (flat_map (flat_map encoded) rs) rs
   rows_written_lem hs [] f = IsRows.ended
   rows_written_lem hs (r ∷ rs) f = IsRows.row (row_written hs r f.0) (rows_written_lem hs rs f.1)
 
@@ -26,7 +26,7 @@ module _ (round : (c : Cell) → lawful_cell c ≡ true → decoded (encoded c) 
   table_written n hs (rows rs) l h f = IsTable.table l h (rows_written_lem hs rs f)
   table_written n hs too_long l h f = absurd f
 
-  tables_written : (ts : Told) → All (λ t. lawful_name t.name ≡ true) ts → All (λ t. LawfulHeadings t.table.headings) ts → All (λ t. BodyFits t.table.headings t.table.body) ts → IsTables (flat_map table_bytes ts) ts
+  tables_written : (ts : Told) → AllByRecursion (λ t. lawful_name t.name ≡ true) ts → AllByRecursion (λ t. LawfulHeadings t.table.headings) ts → AllByRecursion (λ t. BodyFits t.table.headings t.table.body) ts → IsTables (flat_map table_bytes ts) ts
   tables_written [] l h f = IsTables.ended
   tables_written (t ∷ ts) l h f =
       IsTables.table (table_written t.name t.table.headings t.table.body l.0 h.0 f.0) (tables_written ts l.1 h.1 f.1)

@@ -2,7 +2,6 @@
 use Rattle.std.specs.Prelude.{◌≡◌, ℕ, ◌+◌, ◌*◌, ◌<◌, ◌≤◌, List, length, drop, Ok, Err, Result, slice_index}
 use Rattle.batches.specs.Layouts.{slice_at, headings_at, cells_at, rows_at, cells_from, Inside, told_by}
 use Rattle.batches.specs.Reading.{Stage, between, columns, cells, State, Step, goes, stops, step, Reading, tables, refused}
-use Rattle.batches.specs.Tables.{Told}
 use Rattle.batches.specs.declared.checker.Checker.{Checker}
 use Rattle.batches.specs.declared.checker.Stage.{Stage as Expects}
 use Rattle.batches.specs.declared.checker.Stage.TheVariants.{Between, Columns, Cells}

@@ -1,10 +1,10 @@
 -- The batch format, rule by rule: which bytes stand for which tables. Assumes nothing.
-use Rattle.std.specs.Prelude.{◌≡◌, ℕ, ◌+◌, ◌<◌, ◌≤◌, Bool, true, false, cond, List, [], ◌∷◌, ◌++◌, length, take, Some, ◌==◌, slice_index}
+use Rattle.std.specs.Prelude.{◌≡◌, ℕ, ◌+◌, ◌<◌, ◌≤◌, true, cond, List, [], ◌∷◌, ◌++◌, length, take, Some, ◌==◌, slice_index}
 use Rattle.std.specs.List.{flat_map}
 use Rattle.values.specs.Cells.{Cell}
 use Rattle.values.specs.Codes.{decoded, fits, type_byte}
 use Rattle.values.specs.Names.{lawful_name}
-use Rattle.batches.specs.Tables.{Heading, Body, rows, Table, Named, Told, LawfulHeadings, Distinct}
+use Rattle.batches.specs.Tables.{Heading, rows, Named, Told, LawfulHeadings, Distinct}
 
 -- the command of a column: its name and its type's byte
 abbrev pub column_bytes : Heading → List ℕ

@@ -1,13 +1,13 @@
 -- Where tables lie in the bytes of a checked batch, and what stands there. Assumes nothing.
 use Rattle.std.specs.Prelude.{ℕ, suc, ◌+◌, ◌*◌, ◌<◌, cond, List, [], ◌∷◌, map, length, take, drop, Some, None, Option, ◌==◌, slice_index}
-use Rattle.std.specs.List.{slice_get, range_with_len, AllByRecursion as All}
+use Rattle.std.specs.List.{slice_get, range_with_len, AllByRecursion}
 use Rattle.std.specs.Option.{option_map, unwrap_or}
 use Rattle.std.specs.Str.{bytes_eq}
 use Rattle.values.specs.Cells.{Cell, null}
 use Rattle.values.specs.Codes.{decoded}
 use Rattle.values.specs.declared.kinds.ColumnType.{ColumnType}
 use Rattle.values.specs.declared.kinds.ColumnType.TheVariants.{Integer, Real, Text}
-use Rattle.batches.specs.Tables.{Heading, rows, Table, Named, Told}
+use Rattle.batches.specs.Tables.{Heading, rows, Named, Told}
 use Rattle.batches.specs.declared.layout.Layout.{Layout}
 use Rattle.batches.specs.declared.layout.Catalog.{Catalog}
 
@@ -63,7 +63,7 @@ pub record Lies (bs : List ℕ) (l : Layout) : Type 0 where
   pub lies : cells_from l.at l.width + 17 * (l.width * l.rows) < length bs
 
 abbrev pub Inside : List ℕ → Catalog → Type 0
-Inside bs c = All (Lies bs) (take c.count c.tables)
+Inside bs c = AllByRecursion (Lies bs) (take c.count c.tables)
 
 -- the place of the first table with a name
 unfoldable pub place_of : List ℕ → Told → Option ℕ

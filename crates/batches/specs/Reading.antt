@@ -1,12 +1,12 @@
 -- Reading a batch, command by command. Assumes nothing.
-use Rattle.std.specs.Prelude.{ℕ, zero, suc, ◌+◌, Bool, true, false, cond, not, ◌&&◌, ◌||◌, List, [], ◌∷◌, ◌++◌, length, take, drop, Some, None, Option, ◌==◌, nat_lt, slice_index}
+use Rattle.std.specs.Prelude.{ℕ, zero, suc, ◌+◌, Bool, false, cond, not, ◌&&◌, ◌||◌, List, [], ◌∷◌, ◌++◌, length, take, drop, Some, None, Option, ◌==◌, nat_lt, slice_index}
 use Rattle.std.specs.Str.{bytes_eq}
 use Rattle.values.specs.Cells.{Cell}
-use Rattle.values.specs.Codes.{decoded, fits, byte_fits, type_of}
+use Rattle.values.specs.Codes.{decoded, byte_fits, type_of}
 use Rattle.values.specs.Names.{lawful_name}
 use Rattle.values.specs.declared.kinds.ColumnType.{ColumnType}
 use Rattle.batches.specs.Format.{operand_length}
-use Rattle.batches.specs.Tables.{Heading, Body, rows, Table, Named, Told}
+use Rattle.batches.specs.Tables.{Heading, rows, Told}
 
 -- Where the reading stands: before a table or the close; after a table's name and some columns; after
 -- the columns, some whole rows and the first cells of one more.

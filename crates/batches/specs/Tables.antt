@@ -1,6 +1,6 @@
 -- Tables, as stores tell them and batches hold them. Assumes nothing.
-use Rattle.std.specs.Prelude.{◌≡◌, ℕ, ◌≤◌, Bool, true, List, [], ◌∷◌, length, ◌≢◌}
-use Rattle.std.specs.List.{AllByRecursion as All}
+use Rattle.std.specs.Prelude.{◌≡◌, ℕ, ◌≤◌, true, List, [], ◌∷◌, length, ◌≢◌}
+use Rattle.std.specs.List.{AllByRecursion}
 use Rattle.values.specs.Cells.{Cell, lawful_cell}
 use Rattle.values.specs.Codes.{fits}
 use Rattle.values.specs.Names.{lawful_name}
@@ -40,7 +40,7 @@ RowFits (h ∷ hs) (c ∷ cs) = (lawful_cell c ≡ true) × (fits h.holds c ≡ 
 pub record LawfulHeadings (hs : List Heading) : Type 0 where
   pub some : 1 ≤ length hs
   pub few : length hs ≤ 8
-  pub named : All (λ h. lawful_name h.name ≡ true) hs
+  pub named : AllByRecursion (λ h. lawful_name h.name ≡ true) hs
 
 -- no two tables have one name
 abbrev pub Apart : List ℕ → Told → Type 0

@@ -1,9 +1,9 @@
 -- What is proved of batches, in the format's own words.
 use Rattle.std.specs.Prelude.{◌≡◌, ℕ, ◌<◌, ◌≤◌, List, length}
-use Rattle.std.specs.List.{AllByRecursion as All}
+use Rattle.std.specs.List.{AllByRecursion}
 use Rattle.batches.specs.Described.{Described}
 use Rattle.batches.specs.Format.{IsBatch, RefusedAt}
-use Rattle.batches.specs.Reading.{Reading, tables, refused, reading, longest}
+use Rattle.batches.specs.Reading.{tables, refused, reading, longest}
 use Rattle.batches.specs.Tables.{Told}
 use Rattle.batches.specs.Written.{written, Writable}
 
@@ -25,4 +25,4 @@ WrittenLoads = (ts : Told) → Writable ts → reading (written ts) ≡ tables t
 
 -- What a batch is read as are lawful tables, each with at most a million rows.
 abbrev pub TablesDescribed : Type 0
-TablesDescribed = (bs : List ℕ) (ts : Told) → All (λ b. b < 256) bs → reading bs ≡ tables ts → Described ts
+TablesDescribed = (bs : List ℕ) (ts : Told) → AllByRecursion (λ b. b < 256) bs → reading bs ≡ tables ts → Described ts

@@ -1,12 +1,11 @@
 -- How tables are written as a batch. Assumes nothing.
 use Rattle.std.specs.Prelude.{◌≡◌, ℕ, ◌≤◌, true, List, [], ◌∷◌, ◌++◌, length}
-use Rattle.std.specs.List.{flat_map, AllByRecursion as All}
-use Rattle.values.specs.Cells.{Cell}
+use Rattle.std.specs.List.{flat_map, AllByRecursion}
 use Rattle.values.specs.Codes.{encoded}
 use Rattle.values.specs.Names.{lawful_name}
 use Rattle.batches.specs.Format.{column_bytes}
 use Rattle.batches.specs.Reading.{longest}
-use Rattle.batches.specs.Tables.{Heading, Body, rows, too_long, Table, Named, Told, RowFits, LawfulHeadings, Distinct}
+use Rattle.batches.specs.Tables.{Heading, Body, rows, too_long, Named, Told, RowFits, LawfulHeadings, Distinct}
 
 -- a table's rows, cell by cell; a table that is too long has none to write
 abbrev pub body_bytes : Body → List ℕ
@@ -22,13 +21,13 @@ written = flat_map table_bytes
 
 -- tables that a batch can hold: lawful names and headings, no mark, and rows that fit the headings
 abbrev pub BodyFits : List Heading → Body → Type 0
-BodyFits hs (rows rs) = All (RowFits hs) rs
+BodyFits hs (rows rs) = AllByRecursion (RowFits hs) rs
 BodyFits hs too_long = ⊥
 
 pub record Writable (ts : Told) : Type 0 where
-  pub named : All (λ t. lawful_name t.name ≡ true) ts
-  pub headed : All (λ t. LawfulHeadings t.table.headings) ts
-  pub filled : All (λ t. BodyFits t.table.headings t.table.body) ts
+  pub named : AllByRecursion (λ t. lawful_name t.name ≡ true) ts
+  pub headed : AllByRecursion (λ t. LawfulHeadings t.table.headings) ts
+  pub filled : AllByRecursion (λ t. BodyFits t.table.headings t.table.body) ts
   pub few : length ts ≤ 8
   pub distinct : Distinct ts
   pub short : length (written ts) ≤ longest

@@ -1,10 +1,10 @@
 -- Runs of letters, digits and underscores are names, unless they are keywords. Assumes nothing.
-use Rattle.std.proofs.Common.{◌≡◌, ℕ, zero, suc, ◌+◌, ◌-◌, ◌<◌, ◌≤◌, Bool, true, false, cond, ◌&&◌, ◌||◌, eqb, ltb, leb, ◌⊎◌, List, [], ◌∷◌, map, length, get_or, take, drop, Some, None, codes, Option, sym, refl, ap, ◌∙◌, subst, inl, inr, arith}
+use Rattle.std.proofs.Common.{◌≡◌, ℕ, suc, ◌+◌, ◌-◌, ◌<◌, ◌≤◌, Bool, true, false, cond, ◌||◌, eqb, ltb, leb, ◌⊎◌, List, [], ◌∷◌, map, length, get_or, take, drop, Some, None, codes, Option, sym, refl, ap, ◌∙◌, subst, inl, inr, arith}
 use Rattle.std.proofs.lemmas.List.Edits.{length-between}
 use Rattle.std.proofs.lemmas.Slice.Eq.{bytes_eq-Decides}
 use Rattle.std.proofs.lemmas.List.{drop_more, length-map}
 use Rattle.std.proofs.lemmas.Bool.{and_from, and_parts, both_ways, eqb-true, leb-true, le-leb, le-ltb, lt-leb, lt-ltb, or_cases, or_left, or_right}
-use Rattle.std.specs.List.{between, AllByRecursion as All}
+use Rattle.std.specs.List.{between, AllByRecursion}
 use Rattle.std.specs.Char.{to_ascii_lowercase}
 use Rattle.std.specs.Str.{bytes_eq}
 use Rattle.values.proofs.NameWords.{names_are_words}
@@ -71,12 +71,12 @@ in-word b h = first (or_cases (letter b) (capital b || (decimal_digit b || eqb b
     first (inr k) = second (or_cases (capital b) (decimal_digit b || eqb b 95) k)
 
 -- each byte of a run is of its kind
-lead_all : (p : ℕ → Bool) (bs : List ℕ) → All (λ b. p b ≡ true) (take (lead p bs) bs)
+lead_all : (p : ℕ → Bool) (bs : List ℕ) → AllByRecursion (λ b. p b ≡ true) (take (lead p bs) bs)
 unfolding lead
 lead_all p [] = tt
 lead_all p (b ∷ bs) = go (p b) refl (lead_all p bs)
   where
-    go : (t : Bool) → p b ≡ t → All (λ b. p b ≡ true) (take (lead p bs) bs) → All (λ b. p b ≡ true) (take (cond t (suc (lead p bs)) 0) (b ∷ bs))
+    go : (t : Bool) → p b ≡ t → AllByRecursion (λ b. p b ≡ true) (take (lead p bs) bs) → AllByRecursion (λ b. p b ≡ true) (take (cond t (suc (lead p bs)) 0) (b ∷ bs))
     go true e h = (e, h)
     go false e h = tt
 
@@ -91,8 +91,8 @@ module _ (p : ℕ → Bool) (bs : List ℕ) (at : ℕ) where
       let n : at + lead p (drop at bs) - at ≡ lead p (drop at bs) = omega arith in
       ap (λ (k : ℕ). take k (drop at bs)) n
 
-  pub run_all : All (λ b. p b ≡ true) (between at (run_end p bs at) bs)
-  run_all = subst (λ (xs : List ℕ). All (λ b. p b ≡ true) xs) (sym run_taken) (lead_all p (drop at bs))
+  pub run_all : AllByRecursion (λ b. p b ≡ true) (between at (run_end p bs at) bs)
+  run_all = subst (λ (xs : List ℕ). AllByRecursion (λ b. p b ≡ true) xs) (sym run_taken) (lead_all p (drop at bs))
 
   -- a run begins with its first byte
   pub run_first : at < length bs → p (get_or bs at 0) ≡ true → between at (run_end p bs at) bs ≡ get_or bs at 0 ∷ take (lead p (drop (at + 1) bs)) (drop (at + 1) bs)
@@ -110,7 +110,7 @@ none_of false x o e = (refl, e)
 other_word : (w k : List ℕ) → bytes_eq (filled w) (filled k) ≡ false → w ≡ k → ⊥
 other_word w k h e = both_ways (bytes_eq (filled w) (filled k)) h ((bytes_eq-Decides (filled w) (filled k)).1 (ap filled e))
 
-no_keyword : (w : List ℕ) → keyword_of (filled w) ≡ None → All (λ k. w ≡ k → ⊥) keyword_words
+no_keyword : (w : List ℕ) → keyword_of (filled w) ≡ None → AllByRecursion (λ k. w ≡ k → ⊥) keyword_words
 no_keyword w e =
     let a = none_of (bytes_eq (filled w) (filled (codes "select"))) _ _ e in
     let b = none_of (bytes_eq (filled w) (filled (codes "from"))) _ _ a.1 in
@@ -122,7 +122,7 @@ no_keyword w e =
     let i = none_of (bytes_eq (filled w) (filled (codes "not"))) _ _ h.1 in
     (other_word w _ a.0, (other_word w _ b.0, (other_word w _ c.0, (other_word w _ d.0, (other_word w _ f.0, (other_word w _ g.0, (other_word w _ h.0, (other_word w _ i.0, tt))))))))
 
-all_lower : (xs : List ℕ) → All (λ b. in_word b ≡ true) xs → All (λ b. name_byte b ≡ true) (map to_ascii_lowercase xs)
+all_lower : (xs : List ℕ) → AllByRecursion (λ b. in_word b ≡ true) xs → AllByRecursion (λ b. name_byte b ≡ true) (map to_ascii_lowercase xs)
 all_lower [] h = tt
 all_lower (x ∷ xs) h = (in-word x h.0, all_lower xs h.1)
 
@@ -140,7 +140,7 @@ run_lawful bs at end l h e m k n =
       some = (let c = length-map run to_ascii_lowercase in omega arith);
       short = omega (arith, count);
       first = ap (λ (xs : List ℕ). letter (get_or (map to_ascii_lowercase xs) 0 0)) whole ∙ begins_letter (get_or bs at 0) h;
-      all = all_lower run (subst (λ (j : ℕ). All (λ b. in_word b ≡ true) (between at j bs)) (sym e) (run_all in_word bs at));
+      all = all_lower run (subst (λ (j : ℕ). AllByRecursion (λ b. in_word b ≡ true) (between at j bs)) (sym e) (run_all in_word bs at));
       free = no_keyword (map to_ascii_lowercase run) n;
     })
   where

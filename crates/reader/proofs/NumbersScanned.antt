@@ -1,12 +1,12 @@
 -- Numbers with and without a point. Assumes nothing.
-use Rattle.std.proofs.Common.{◌≡◌, ℕ, zero, suc, ◌+◌, ◌-◌, ◌^◌, ◌<◌, ◌≤◌, Bool, true, false, cond, ◌&&◌, eqb, leb, ◌⊎◌, List, length, get_or, pos, Some, None, Option, sym, refl, ap, ◌∙◌, subst, ap₂, inl, inr, arith}
+use Rattle.std.proofs.Common.{◌≡◌, ℕ, ◌+◌, ◌-◌, ◌^◌, ◌<◌, ◌≤◌, Bool, true, false, cond, ◌&&◌, eqb, leb, ◌⊎◌, List, length, get_or, pos, Some, Option, sym, refl, ap, ◌∙◌, subst, inl, inr, arith}
 use Rattle.std.proofs.lemmas.List.{get_or_past}
 use Rattle.std.proofs.lemmas.Bool.{both_ways, cases_lt, eq-eqb, leb-true, le-leb, lt-leb, ne_eqb}
 use Rattle.std.specs.Bool.{then_some}
 use Rattle.values.specs.Cells.{integer}
 use Rattle.values.specs.Names.{decimal_digit}
 use Rattle.reader.specs.Classes.{is_of, run_end}
-use Rattle.reader.specs.Words.{Scan, UpTo15, decimal_of, digits_in, faulty, found, fraction_by, literal, number_by, number_word, point_at, read_on, real_of, whole_by}
+use Rattle.reader.specs.Words.{UpTo15, decimal_of, digits_in, faulty, found, fraction_by, literal, number_by, number_word, point_at, read_on, whole_by}
 use Rattle.reader.specs.declared.word.Class.TheVariants.{Digit}
 use Rattle.reader.proofs.Digits.{digits_run}
 use Rattle.reader.proofs.Runs.{run_inside}

@@ -1,15 +1,15 @@
 -- Texts between quotes. Assumes nothing.
-use Rattle.std.proofs.Common.{◌≡◌, ℕ, zero, suc, ◌+◌, ◌-◌, ◌<◌, ◌≤◌, Bool, true, false, cond, ◌&&◌, ltb, leb, List, [], ◌∷◌, length, take, drop, Some, None, Option, sym, refl, ap, ◌∙◌, ap₂, arith}
+use Rattle.std.proofs.Common.{◌≡◌, ℕ, zero, suc, ◌+◌, ◌-◌, ◌<◌, ◌≤◌, Bool, true, false, cond, ◌&&◌, ltb, leb, List, [], ◌∷◌, length, take, drop, Some, None, sym, refl, ap, ◌∙◌, ap₂, arith}
 use Rattle.std.proofs.lemmas.List.Edits.{length-between}
-use Rattle.std.proofs.lemmas.Bool.{and_from, both_ways, le-ltb, lt-ltb}
+use Rattle.std.proofs.lemmas.Bool.{and_from, le-ltb, lt-ltb}
 use Rattle.std.specs.List.{between}
-use Rattle.values.specs.Bytes.{each, printable}
+use Rattle.values.specs.Bytes.{each}
 use Rattle.values.specs.Cells.{Cell, text}
 use Rattle.values.specs.Codes.{given}
 use Rattle.values.specs.Made.{text_cell}
 use Rattle.values.specs.Names.{filled}
 use Rattle.reader.specs.Classes.{is_of, lead, run_end}
-use Rattle.reader.specs.Words.{Scan, closed_text, faulty, found, literal, text_word}
+use Rattle.reader.specs.Words.{closed_text, faulty, found, literal, text_word}
 use Rattle.reader.specs.declared.word.Class.TheVariants.{Printable, Unquoted}
 
 -- each byte of a run, and of a part of one, is of its kind

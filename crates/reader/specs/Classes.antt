@@ -1,5 +1,5 @@
 -- The bytes that words are made of. Assumes nothing.
-use Rattle.std.specs.Prelude.{ℕ, zero, suc, ◌+◌, Bool, cond, not, ◌&&◌, ◌||◌, List, [], ◌∷◌, drop, ◌==◌, nat_le}
+use Rattle.std.specs.Prelude.{ℕ, suc, ◌+◌, Bool, cond, not, ◌&&◌, ◌||◌, List, [], ◌∷◌, drop, ◌==◌, nat_le}
 use Rattle.values.specs.Names.{decimal_digit, letter}
 use Rattle.reader.specs.declared.word.Class.{Class}
 use Rattle.reader.specs.declared.word.Class.TheVariants.{Blank, InWord, Digit, Unquoted, Printable}

@@ -1,5 +1,5 @@
 -- The words of a text, and what is wrong with them. Assumes nothing.
-use Rattle.std.specs.Prelude.{ℕ, ◌+◌, ◌-◌, ◌*◌, ◌^◌, ◌<◌, Bool, cond, ◌&&◌, List, [], ◌∷◌, ◌++◌, map, length, pos, Some, None, Ok, Err, codes, filter, Option, Result, ◌==◌, nat_le, nat_lt, slice_index}
+use Rattle.std.specs.Prelude.{ℕ, ◌+◌, ◌-◌, ◌*◌, ◌^◌, ◌<◌, Bool, cond, ◌&&◌, List, [], ◌∷◌, map, length, pos, Some, None, Ok, Err, codes, filter, Option, Result, ◌==◌, nat_le, nat_lt, slice_index}
 use Rattle.std.specs.Float.{binary64}
 use Rattle.std.specs.Float.Ieee.{div, of_int}
 use Rattle.std.specs.List.{between}
@@ -11,7 +11,7 @@ use Rattle.values.specs.Cells.{Cell, integer, null, text, cell_of}
 use Rattle.values.specs.Made.{real_cell}
 use Rattle.values.specs.Named.{name_bytes}
 use Rattle.values.specs.Names.{decimal_digit, filled}
-use Rattle.reader.specs.Classes.{begins_name, blank, capital, in_word, is_of, lead, run_end}
+use Rattle.reader.specs.Classes.{begins_name, blank, in_word, is_of, run_end}
 use Rattle.reader.specs.declared.word.Class.TheVariants.{Digit, Printable, Unquoted}
 use Rattle.reader.specs.declared.word.Keyword.{Keyword}
 use Rattle.reader.specs.declared.word.Keyword.TheVariants.{Select, From, Where, Union, Intersection, And, Or, Not}

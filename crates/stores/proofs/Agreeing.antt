@@ -1,7 +1,7 @@
 -- Equal tables, and the table under a name and its equal. Assumes nothing.
 use Rattle.std.proofs.Common.{◌≡◌, ℕ, Bool, true, false, cond, List, [], ◌∷◌, Some, None, Option, sym, refl, ap, ◌∙◌, subst, arith}
 use Rattle.std.proofs.ByRecursion.{all_from_every, all-has, has_get_or}
-use Rattle.std.specs.List.{ContainsAt as Has, AllByRecursion as All}
+use Rattle.std.specs.List.{ContainsAt as Has, AllByRecursion}
 use Rattle.std.specs.Str.{bytes_eq}
 use Rattle.values.specs.Cells.{Cell}
 use Rattle.batches.specs.Tables.{Body, rows, too_long, Table, Told}
@@ -27,7 +27,7 @@ pub some_row_both : (P : List Cell → Type 0) (xs ys : List (List Cell)) → Sa
 some_row_both P xs ys e = (some_row P xs ys e, some_row P ys xs (same_rows_symmetric xs ys e))
 
 -- what holds of each row of the one holds of each row of the other
-pub each_row : (P : List Cell → Type 0) (xs ys : List (List Cell)) → SameRows xs ys → All P xs → All P ys
+pub each_row : (P : List Cell → Type 0) (xs ys : List (List Cell)) → SameRows xs ys → AllByRecursion P xs → AllByRecursion P ys
 each_row P xs ys e h = all_from_every P ys (λ k d low lt. all-has P xs _ h ((e _).1 (has_get_or ys k d lt)))
 
 -- ---- tables that agree

@@ -5,7 +5,7 @@ use Rattle.std.proofs.ByRecursion.{all-has, all_has_itself, all_kept_by, All-wea
 use Rattle.std.proofs.lemmas.List.{append-nil}
 use Rattle.std.proofs.lemmas.Bool.{both_ways, not_from_false, not-true}
 use Rattle.std.proofs.lemmas.Bool.Decides.{Decides-like, Decides-or}
-use Rattle.std.specs.List.{HoldsAt, ContainsAt as Has, AllByRecursion as All}
+use Rattle.std.specs.List.{HoldsAt, ContainsAt as Has, AllByRecursion}
 use Rattle.values.specs.Cells.{Cell}
 use Rattle.batches.specs.Tables.{Heading, RowFits}
 use Rattle.stores.specs.Agreeing.{among, beyond, FirstAt, FirstBefore, firsts, Once, Onward, SameRows, same_row, without}
@@ -26,7 +26,7 @@ without_swapped : (r s : List Cell) (xs : List (List Cell)) → without r (witho
 without_swapped r s xs = kept_by_swapped (λ t. not (same_row r t)) (λ t. not (same_row s t)) xs
 
 -- what is left differs from what was struck out
-pub without_different : (r : List Cell) (xs : List (List Cell)) → All (λ s. r ≡ s → ⊥) (without r xs)
+pub without_different : (r : List Cell) (xs : List (List Cell)) → AllByRecursion (λ s. r ≡ s → ⊥) (without r xs)
 without_different r xs =
     All-weaker (λ s. not (same_row r s) ≡ true) (λ s. r ≡ s → ⊥) (λ s h. different_rows r s (not-true (same_row r s) h)) (without r xs) (kept_by_passes (λ s. not (same_row r s)) xs)
 
@@ -75,14 +75,14 @@ firsts_push xs r = firsts_append xs (r ∷ []) ∙ go (among xs r)
 -- ---- which rows stand first
 
 -- what holds of each row holds of each that stands first
-pub all_firsts : (P : List Cell → Type 0) (xs : List (List Cell)) → All P xs → All P (firsts xs)
+pub all_firsts : (P : List Cell → Type 0) (xs : List (List Cell)) → AllByRecursion P xs → AllByRecursion P (firsts xs)
 all_firsts P [] h = tt
 all_firsts P (x ∷ xs) h = (h.0, all_kept_by (λ s. not (same_row x s)) P (firsts xs) (all_firsts P xs h.1))
 
 pub has_from_firsts : (xs : List (List Cell)) (r : List Cell) → Has (firsts xs) r → Has xs r
 has_from_firsts xs r h = all-has (Has xs) (firsts xs) r (all_firsts (Has xs) xs (all_has_itself xs)) h
 
-pub firsts_has : (hs : List Heading) (xs : List (List Cell)) (r : List Cell) → All (RowFits hs) xs → Has xs r → Has (firsts xs) r
+pub firsts_has : (hs : List Heading) (xs : List (List Cell)) (r : List Cell) → AllByRecursion (RowFits hs) xs → Has xs r → Has (firsts xs) r
 firsts_has hs [] r f h = h
 firsts_has hs (x ∷ xs) r f h = go (firsts_has hs xs r f.1) (has_cases x xs r h) (same_row x r) refl
   where
@@ -94,16 +94,16 @@ firsts_has hs (x ∷ xs) r f h = go (firsts_has hs xs r f.1) (has_cases x xs r h
         has_behind x (without x (firsts xs)) r (has_kept (λ s. not (same_row x s)) (firsts xs) r (not_from_false (same_row x r) t) (ih k))
 
 -- the rows that stand first are the same rows
-pub firsts_same_rows : (hs : List Heading) (xs : List (List Cell)) → All (RowFits hs) xs → SameRows (firsts xs) xs
+pub firsts_same_rows : (hs : List Heading) (xs : List (List Cell)) → AllByRecursion (RowFits hs) xs → SameRows (firsts xs) xs
 firsts_same_rows hs xs f r = (has_from_firsts xs r, firsts_has hs xs r f)
 
 -- where the same rows stand first, the rows are the same
-pub same_rows_from_firsts : (hs gs : List Heading) (xs ys : List (List Cell)) → All (RowFits hs) xs → All (RowFits gs) ys → firsts xs ≡ firsts ys → SameRows xs ys
+pub same_rows_from_firsts : (hs gs : List Heading) (xs ys : List (List Cell)) → AllByRecursion (RowFits hs) xs → AllByRecursion (RowFits gs) ys → firsts xs ≡ firsts ys → SameRows xs ys
 same_rows_from_firsts hs gs xs ys f g e r =
     ((λ h. has_from_firsts ys r (subst (λ l. Has l r) e (firsts_has hs xs r f h))), λ h. has_from_firsts xs r (subst (λ l. Has l r) (sym e) (firsts_has gs ys r g h)))
 
 -- the test finds just the rows that are among others
-pub among_decides : (hs : List Heading) (xs : List (List Cell)) (r : List Cell) → All (RowFits hs) xs → RowFits hs r → Decides (among xs r) (Has xs r)
+pub among_decides : (hs : List Heading) (xs : List (List Cell)) (r : List Cell) → AllByRecursion (RowFits hs) xs → RowFits hs r → Decides (among xs r) (Has xs r)
 among_decides hs [] r f g = ((λ e. absurd (both_ways false refl e)), λ h. absurd (has_none r h))
 among_decides hs (x ∷ xs) r f g =
     Decides-like (same_row x r || among xs r) (⊎_elim (has_same x r xs) (has_behind x xs r)) (has_cases x xs r) (Decides-or (same_row x r) (among xs r) (same_row_decides hs x r f.0 g) (among_decides hs xs r f.1 g))
@@ -130,15 +130,15 @@ first_behind x xs r k n f = record { within = let l = f.within in omega arith; h
     go (suc j) l d = f.new j (omega arith) d
 
 -- a property of rows that are left, and that they differ from what was struck out
-left_different : (P : List Cell → Type 0) (Q : List Cell → Type 0) (x : List Cell) → ((r : List Cell) → (x ≡ r → ⊥) → P r → Q r) → (xs : List (List Cell)) → All P xs → All Q (without x xs)
+left_different : (P : List Cell → Type 0) (Q : List Cell → Type 0) (x : List Cell) → ((r : List Cell) → (x ≡ r → ⊥) → P r → Q r) → (xs : List (List Cell)) → AllByRecursion P xs → AllByRecursion Q (without x xs)
 left_different P Q x f xs h = go (without x xs) (without_different x xs) (all_kept_by (λ s. not (same_row x s)) P xs h)
   where
-    go : (ys : List (List Cell)) → All (λ s. x ≡ s → ⊥) ys → All P ys → All Q ys
+    go : (ys : List (List Cell)) → AllByRecursion (λ s. x ≡ s → ⊥) ys → AllByRecursion P ys → AllByRecursion Q ys
     go [] a b = tt
     go (y ∷ ys) a b = (f y a.0 b.0, go ys a.1 b.1)
 
 -- each stands at a first place
-pub firsts_placed : (xs : List (List Cell)) → All (λ r. (k : ℕ) × FirstAt xs r k) (firsts xs)
+pub firsts_placed : (xs : List (List Cell)) → AllByRecursion (λ r. (k : ℕ) × FirstAt xs r k) (firsts xs)
 firsts_placed [] = tt
 firsts_placed (x ∷ xs) =
     ((0, first_here x xs), left_different (λ r. (k : ℕ) × FirstAt xs r k) (λ r. (k : ℕ) × FirstAt (x ∷ xs) r k) x (λ r n h. (suc h.0, first_behind x xs r h.0 n h.1)) (firsts xs) (firsts_placed xs))

@@ -2,7 +2,7 @@
 use Rattle.std.proofs.Common.{◌≡◌, ℕ, zero, suc, ◌<◌, Bool, true, false, cond, ◌&&◌, ◌⊎◌, List, [], ◌∷◌, length, get_or, filter, sym, refl, ap, ◌∙◌, inl, inr, arith}
 use Rattle.std.proofs.ByRecursion.{All-get_or, all-has, all_has_itself, all_kept_by, has_append_right}
 use Rattle.std.proofs.lemmas.Bool.{and_right, both_ways, cond-false}
-use Rattle.std.specs.List.{ContainsAt as Has, AllByRecursion as All}
+use Rattle.std.specs.List.{ContainsAt as Has, AllByRecursion}
 use Rattle.stores.specs.Agreeing.{Onward}
 
 -- ---- tests
@@ -76,11 +76,11 @@ module _ {X : Type 0} where
   -- ---- what holds onward
 
   -- one relation gives another between elements of which a property holds
-  pub onward_weaker : (P : X → Type 0) (R Q : X → X → Type 0) → ((x y : X) → P x → P y → R x y → Q x y) → (xs : List X) → All P xs → Onward R xs → Onward Q xs
+  pub onward_weaker : (P : X → Type 0) (R Q : X → X → Type 0) → ((x y : X) → P x → P y → R x y → Q x y) → (xs : List X) → AllByRecursion P xs → Onward R xs → Onward Q xs
   onward_weaker P R Q f [] h k = tt
   onward_weaker P R Q f (x ∷ xs) h k = (go xs h.1 k.0, onward_weaker P R Q f xs h.1 k.1)
     where
-      go : (ys : List X) → All P ys → All (R x) ys → All (Q x) ys
+      go : (ys : List X) → AllByRecursion P ys → AllByRecursion (R x) ys → AllByRecursion (Q x) ys
       go [] a b = tt
       go (y ∷ ys) a b = (f x y h.0 a.0 b.0, go ys a.1 b.1)
 
@@ -89,7 +89,7 @@ module _ {X : Type 0} where
   onward_kept p R [] h = tt
   onward_kept p R (x ∷ xs) h = go (p x) (all_kept_by p (R x) xs h.0) (onward_kept p R xs h.1)
     where
-      go : (b : Bool) → All (R x) (filter p xs) → Onward R (filter p xs) → Onward R (cond b (x ∷ filter p xs) (filter p xs))
+      go : (b : Bool) → AllByRecursion (R x) (filter p xs) → Onward R (filter p xs) → Onward R (cond b (x ∷ filter p xs) (filter p xs))
       go true a k = (a, k)
       go false a k = k
 

@@ -1,11 +1,11 @@
 -- What is offered to a shelf. Assumes nothing.
-use Rattle.std.proofs.Common.{◌≡◌, ℕ, ◌<◌, ◌≤◌, Bool, true, false, cond, leb, List, [], ◌∷◌, length, take, IsErrAnd, Ok, Err, Result, sym, refl, ap, ◌∙◌, subst, ap₂, arith}
+use Rattle.std.proofs.Common.{◌≡◌, ℕ, ◌<◌, ◌≤◌, Bool, true, false, cond, leb, List, [], ◌∷◌, length, take, IsErrAnd, Ok, Err, Result, sym, refl, ap, ◌∙◌, subst, arith}
 use Rattle.std.proofs.lemmas.Bool.{le-leb, lt-leb}
-use Rattle.std.specs.List.{AllByRecursion as All}
+use Rattle.std.specs.List.{AllByRecursion}
 use Rattle.batches.proofs.Described.{tables_described}
 use Rattle.batches.specs.Layouts.{told_by}
 use Rattle.batches.specs.Reading.{Reading, tables, refused, reading}
-use Rattle.batches.specs.Tables.{Table, Named, Told}
+use Rattle.batches.specs.Tables.{Named, Told}
 use Rattle.batches.specs.declared.layout.Catalog.{Catalog}
 use Rattle.values.specs.Named.{name_bytes}
 use Rattle.values.specs.Names.{lawful_name}
@@ -52,7 +52,7 @@ offered_one (tables (t ∷ [])) ts e =
 offered_one (tables (t ∷ u ∷ us)) ts e = absurd (done_refuses ts (by_store 7 0) e)
 
 -- that one is lawful under any lawful name
-pub held_lawful : (bs n : List ℕ) (ts : Told) → All (λ b. b < 256) bs → lawful_name n ≡ true → done ts ≡ table_offered (reading bs) → is_lawful (record { name = n; table = first_table ts } ∷ []) ≡ true
+pub held_lawful : (bs n : List ℕ) (ts : Told) → AllByRecursion (λ b. b < 256) bs → lawful_name n ≡ true → done ts ≡ table_offered (reading bs) → is_lawful (record { name = n; table = first_table ts } ∷ []) ≡ true
 unfolding first_table
 held_lawful bs n ts b h e =
     let o = offered_one (reading bs) ts e in
@@ -103,7 +103,7 @@ module _ (n : Name) (xs bs : List ℕ) (c : Catalog) (e : take (length bs) xs �
   unfolding held_as
   held_from = ap (λ (ds : List ℕ). record { name = name_bytes n; table = first_table (told_by ds c) }) e
 
-  pub area_lawful : All (λ b. b < 256) bs → done (told_by bs c) ≡ table_offered (reading bs) → is_lawful (held_as n (length bs) xs c ∷ []) ≡ true
+  pub area_lawful : AllByRecursion (λ b. b < 256) bs → done (told_by bs c) ≡ table_offered (reading bs) → is_lawful (held_as n (length bs) xs c ∷ []) ≡ true
   unfolding name_bytes
   area_lawful b o =
       subst (λ (t : Named). is_lawful (t ∷ []) ≡ true) (sym held_from) (held_lawful bs (name_bytes n) (told_by bs c) b n.lawful o)

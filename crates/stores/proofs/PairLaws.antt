@@ -1,13 +1,13 @@
 -- What a pair tells, name by name. Assumes nothing.
-use Rattle.std.proofs.Common.{◌≡◌, ℕ, ◌+◌, ◌<◌, ◌≤◌, Bool, true, false, cond, leb, ◌⊎◌, List, [], ◌∷◌, ◌++◌, length, Some, None, Option, sym, refl, ap, ◌∙◌, subst, ap₂, inl, inr, arith}
+use Rattle.std.proofs.Common.{◌≡◌, ℕ, ◌+◌, ◌<◌, ◌≤◌, Bool, true, false, cond, ◌⊎◌, List, [], ◌∷◌, ◌++◌, length, Some, None, Option, sym, refl, ap, ◌∙◌, subst, ap₂, inl, inr}
 use Rattle.std.proofs.ByRecursion.{has_append_left}
-use Rattle.std.proofs.lemmas.Bool.{both_ways, le-leb, lt-leb}
+use Rattle.std.proofs.lemmas.Bool.{le-leb, lt-leb}
 use Rattle.std.specs.List.{ContainsAt as Has}
 use Rattle.values.specs.Cells.{Cell}
 use Rattle.batches.specs.Tables.{Heading, Body, rows, too_long, Table, Told}
-use Rattle.stores.specs.Agreeing.{AgreeingBodies, AgreeingTables, EqualTables, SameRows}
+use Rattle.stores.specs.Agreeing.{AgreeingBodies, AgreeingTables, SameRows}
 use Rattle.stores.specs.Meaning.{lookup, most_rows}
-use Rattle.stores.specs.PairLaws.{Both, FewTogether, Joined, PairAlike, PairOfEquals, PairSingle, PairUnlike}
+use Rattle.stores.specs.PairLaws.{Joined, PairAlike, PairOfEquals, PairSingle, PairUnlike}
 use Rattle.stores.specs.Paired.{join_body, join_table, paired, paired_table, same_headings, with_other}
 use Rattle.stores.proofs.AgreeingKept.{has_behind, has_cases, has_same}
 use Rattle.stores.specs.Headings.{same_headings_decides}

@@ -1,15 +1,12 @@
 -- Places after one of them was filled or freed. Assumes nothing.
 use Rattle.std.proofs.Common.{◌≡◌, ℕ, zero, suc, ◌<◌, Bool, true, false, cond, List, [], ◌∷◌, length, set, Some, None, Option, sym, refl, ap, ◌∙◌, subst, arith}
-use Rattle.batches.specs.Asked.{chained}
-use Rattle.batches.specs.Tables.{Table, Named, Apart, Distinct}
+use Rattle.batches.specs.Tables.{Named, Apart, Distinct}
 use Rattle.std.proofs.lemmas.Slice.Eq.{bytes_eq-Decides}
 use Rattle.std.proofs.lemmas.Bool.{both_ways}
 use Rattle.std.specs.List.{slice_get}
 use Rattle.std.specs.Option.{option_map}
 use Rattle.std.specs.Str.{bytes_eq}
-use Rattle.stores.specs.Meaning.{lookup}
-use Rattle.stores.specs.Places.{Places, first_place, in_places, is_named, place_holding, table_in}
-use Rattle.stores.specs.Placed.{place_stands}
+use Rattle.stores.specs.Places.{Places, first_place, in_places, place_holding}
 
 -- where nothing is found, the first place is none and nothing is found behind it
 pub nowhere : (b : Bool) (o : Option ℕ) → cond b (Some 0) (option_map suc o) ≡ None → (b ≡ false) × (o ≡ None)

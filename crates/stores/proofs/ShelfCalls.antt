@@ -1,14 +1,14 @@
 -- The calls that change a shelf. Assumes nothing.
-use Rattle.std.proofs.Common.{◌≡◌, ℕ, ◌<◌, Bool, true, false, cond, List, [], ◌∷◌, length, set, is_some, IsErrAnd, Some, None, Ok, Err, Option, Result, sym, refl, ap, ◌∙◌, ap₂, arith}
+use Rattle.std.proofs.Common.{◌≡◌, ℕ, ◌<◌, Bool, true, false, cond, List, [], ◌∷◌, is_some, IsErrAnd, Some, None, Ok, Err, Option, Result, sym, refl, ap, ◌∙◌, arith}
 use Rattle.batches.specs.Asked.{chained}
 use Rattle.batches.specs.Tables.{Table, Named, Told, Apart, Distinct}
 use Rattle.std.proofs.lemmas.Bool.{both_ways}
-use Rattle.std.specs.List.{AllByRecursion as All}
+use Rattle.std.specs.List.{AllByRecursion}
 use Rattle.values.specs.Names.{lawful_name}
 use Rattle.stores.specs.Meaning.{lookup}
-use Rattle.stores.specs.Places.{Places, lowest_free, first_place, in_places, is_free, is_named, place_holding}
+use Rattle.stores.specs.Places.{Places, lowest_free, first_place, in_places, place_holding}
 use Rattle.stores.specs.Refusals.{Refusal, by_shelf, shelf_refusal}
-use Rattle.stores.specs.Shelved.{Outcome, Placing, done, refuses, answered, dropping, freeing, holds_in, keeping, keep_on, offered, placing, shelf_number, shelf_stands, shelf_told}
+use Rattle.stores.specs.Shelved.{done, refuses, answered, dropping, freeing, holds_in, keeping, keep_on, offered, placing, shelf_number, shelf_stands, shelf_told}
 use Rattle.stores.specs.declared.faults.ShelfFault.{ShelfFault}
 use Rattle.stores.specs.declared.kept_tables.KeptTables.{KeptTables}
 use Rattle.stores.proofs.KeptFound.{holds_eight}
@@ -30,7 +30,7 @@ place_within ks p i e = let l = first_within p (holds_in ks) i e in omega (arith
 pub unlawful_unkept : (ks : KeptTables) (n : List ℕ) → lawful_name n ≡ false → place_holding (holds_in ks) n ≡ None
 unlawful_unkept ks n h = apart_unnamed (holds_in ks) n (by (in_places (holds_in ks)) (each_held ks.places).named)
   where
-    by : (ts : Told) → All (λ t. lawful_name t.name ≡ true) ts → Apart n ts
+    by : (ts : Told) → AllByRecursion (λ t. lawful_name t.name ≡ true) ts → Apart n ts
     by [] l = tt
     by (t ∷ ts) l = ((λ e. both_ways (lawful_name n) h (ap lawful_name e ∙ l.0)), by ts l.1)
 

@@ -1,23 +1,21 @@
 -- What keeping and dropping do to what is told. Assumes nothing.
-use Rattle.std.proofs.Common.{◌≡◌, ℕ, zero, suc, ◌<◌, Bool, true, false, cond, ◌||◌, List, [], ◌∷◌, ◌++◌, length, set, is_some, Some, None, Option, sym, refl, ap, ◌∙◌, subst, ap₂, arith}
+use Rattle.std.proofs.Common.{◌≡◌, ℕ, zero, suc, ◌<◌, Bool, true, false, cond, List, [], ◌∷◌, ◌++◌, length, set, is_some, Some, None, Option, sym, refl, ap, ◌∙◌, arith}
 use Rattle.batches.specs.Asked.{chained}
-use Rattle.batches.specs.Reading.{taken}
 use Rattle.batches.specs.Tables.{Table, Named, Told, Apart, Distinct}
 use Rattle.std.proofs.lemmas.Slice.Eq.{bytes_eq-Decides}
 use Rattle.std.proofs.lemmas.List.{append_assoc, append-nil}
 use Rattle.std.proofs.lemmas.Bool.{both_ways}
-use Rattle.std.specs.List.{slice_get, AllByRecursion as All}
+use Rattle.std.specs.List.{slice_get, AllByRecursion}
 use Rattle.std.specs.Option.{option_map}
 use Rattle.std.specs.Str.{bytes_eq}
-use Rattle.values.specs.Names.{lawful_name}
 use Rattle.stores.specs.Meaning.{lookup}
 use Rattle.stores.specs.Places.{Places, lowest_free, first_place, in_places, is_free, is_named, place_holding, table_in, with_new}
 use Rattle.stores.specs.Shelved.{Outcome, Placing, done, refuses, after_drop, after_keep, dropping, freeing, keeping, keep_on, offered, placing, shelf_told}
-use Rattle.stores.specs.Shelving.{AllTold, DropFrees, DropVisible, DroppedSo, KeepTells, KeepVisible, KeptSo, Visible}
-use Rattle.stores.specs.Refusals.{Refusal, by_shelf}
+use Rattle.stores.specs.Shelving.{AllTold, DropFrees, DropVisible, KeepTells, KeepVisible, Visible}
+use Rattle.stores.specs.Refusals.{by_shelf}
 use Rattle.stores.proofs.Offering.{done_refuses}
 use Rattle.stores.specs.Placed.{either, free_lookup, lookup_push, place_known, place_name, place_stands}
-use Rattle.stores.proofs.PlacesChanged.{apart_unnamed, differ, first_filled, first_unchanged, nowhere, somewhere, at_first, unnamed_freed}
+use Rattle.stores.proofs.PlacesChanged.{differ, first_filled, first_unchanged, somewhere, at_first, unnamed_freed}
 use Rattle.stores.specs.ShelfNumbers.{shelf_lookup}
 
 none_from : {X : Type 0} (o : Option X) → is_some o ≡ false → o ≡ None
@@ -169,7 +167,7 @@ drop_frees ts ps n i d e =
     }
 
 -- what holds of each table in the places, after one of them was changed
-all_freed : (P : Named → Type 0) (ps : Places) (i : ℕ) → All P (in_places ps) → All P (in_places (set ps i None))
+all_freed : (P : Named → Type 0) (ps : Places) (i : ℕ) → AllByRecursion P (in_places ps) → AllByRecursion P (in_places (set ps i None))
 unfolding in_places
 all_freed P [] i h = tt
 all_freed P (None ∷ ps) zero h = h
@@ -177,7 +175,7 @@ all_freed P (Some t ∷ ps) zero h = h.1
 all_freed P (None ∷ ps) (suc i) h = all_freed P ps i h
 all_freed P (Some t ∷ ps) (suc i) h = (h.0, all_freed P ps i h.1)
 
-all_filled : (P : Named → Type 0) (ps : Places) (i : ℕ) (t : Named) → P t → All P (in_places ps) → All P (in_places (set ps i (Some t)))
+all_filled : (P : Named → Type 0) (ps : Places) (i : ℕ) (t : Named) → P t → AllByRecursion P (in_places ps) → AllByRecursion P (in_places (set ps i (Some t)))
 unfolding in_places
 all_filled P [] i t q h = tt
 all_filled P (None ∷ ps) zero t q h = (q, h)
@@ -205,7 +203,7 @@ drop_visible ts ps n v = by (dropping ps n)
     by (done i) = all_freed (λ t. lookup ts t.name ≡ None) ps i v
 
 -- one more table is told, of another name than each of some
-untold_more : (ts : Told) (u : Named) (us : Told) → Apart u.name us → All (λ v. lookup ts v.name ≡ None) us → All (λ v. lookup (ts ++ u ∷ []) v.name ≡ None) us
+untold_more : (ts : Told) (u : Named) (us : Told) → Apart u.name us → AllByRecursion (λ v. lookup ts v.name ≡ None) us → AllByRecursion (λ v. lookup (ts ++ u ∷ []) v.name ≡ None) us
 unfolding lookup
 untold_more ts u [] a h = tt
 untold_more ts u (v ∷ us) a h = (
@@ -216,7 +214,7 @@ untold_more ts u (v ∷ us) a h = (
 )
 
 -- tables with new names, no two the same, are all told behind the others
-all_new : (ts us : Told) → All (λ u. lookup ts u.name ≡ None) us → Distinct us → with_new ts us ≡ ts ++ us
+all_new : (ts us : Told) → AllByRecursion (λ u. lookup ts u.name ≡ None) us → Distinct us → with_new ts us ≡ ts ++ us
 unfolding with_new
 all_new ts [] h d = sym (append-nil ts)
 all_new ts (u ∷ us) h d =

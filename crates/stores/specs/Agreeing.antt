@@ -1,6 +1,6 @@
 -- When two stores tell the same: equal tables, and equal tables with their rows in the same order. Assumes nothing.
 use Rattle.std.specs.Prelude.{◌≡◌, ℕ, ◌<◌, Bool, false, not, ◌||◌, List, [], ◌∷◌, length, Some, None, filter, Option, ◌≢◌}
-use Rattle.std.specs.List.{HoldsAt, ContainsAt as Has, flat_map, AllByRecursion as All}
+use Rattle.std.specs.List.{HoldsAt, ContainsAt as Has, flat_map, AllByRecursion}
 use Rattle.std.specs.Str.{bytes_eq}
 use Rattle.values.specs.Cells.{Cell}
 use Rattle.values.specs.Codes.{encoded}
@@ -54,7 +54,7 @@ beyond xs ys = filter (λ s. not (among xs s)) ys
 -- a relation holds from each element to each that stands behind it
 abbrev pub Onward : {X : Type 0} → (X → X → Type 0) → List X → Type 0
 Onward R [] = Unit {0}
-Onward R (x ∷ xs) = All (R x) xs × Onward R xs
+Onward R (x ∷ xs) = AllByRecursion (R x) xs × Onward R xs
 
 -- no row stands twice
 abbrev pub Once : List (List Cell) → Type 0
@@ -96,7 +96,7 @@ Counted too_long = ⊥
 
 -- no table is marked too long
 abbrev pub Unmarked : Told → Type 0
-Unmarked ts = All (λ t. Counted t.table.body) ts
+Unmarked ts = AllByRecursion (λ t. Counted t.table.body) ts
 
 -- What is told equals itself where no table is marked too long.
 abbrev pub EqualReflexive : Type 0

@@ -1,13 +1,13 @@
 -- Tables found by name and by number. Assumes nothing.
 use Rattle.std.specs.Prelude.{◌≡◌, ℕ, zero, suc, Bool, true, false, cond, List, [], ◌∷◌, is_some, Some, None, Option, refl}
-use Rattle.std.proofs.Common.{sym, ap, ap₂, ◌∙◌, arith}
+use Rattle.std.proofs.Common.{sym, ap, ◌∙◌, arith}
 use Rattle.std.proofs.lemmas.Slice.Eq.{bytes_eq-Decides}
 use Rattle.std.specs.List.{slice_get}
 use Rattle.std.specs.Option.{option_map}
 use Rattle.std.specs.Str.{bytes_eq}
 use Rattle.batches.specs.Asked.{chained, row_count, cell_in, count_asked, cell_asked}
 use Rattle.batches.specs.Layouts.{place_of}
-use Rattle.batches.specs.Tables.{Table, Named, Told}
+use Rattle.batches.specs.Tables.{Table, Told}
 use Rattle.stores.specs.Meaning.{column_of, count_of, lookup, value_of}
 
 abbrev pub table_at : Told → ℕ → Option Table

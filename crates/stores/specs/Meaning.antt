@@ -1,12 +1,12 @@
 -- What a store tells, and what its questions answer. Assumes nothing.
-use Rattle.std.specs.Prelude.{◌≡◌, ℕ, ◌≤◌, Bool, true, cond, List, [], ◌∷◌, length, Some, None, Option}
-use Rattle.std.specs.List.{slice_get, AllByRecursion as All}
+use Rattle.std.specs.Prelude.{◌≡◌, ℕ, ◌≤◌, true, cond, List, [], ◌∷◌, length, Some, None, Option}
+use Rattle.std.specs.List.{slice_get, AllByRecursion}
 use Rattle.std.specs.Option.{option_map}
 use Rattle.std.specs.Str.{bytes_eq}
 use Rattle.values.specs.Cells.{Cell}
 use Rattle.values.specs.Names.{lawful_name}
 use Rattle.batches.specs.Asked.{chained, row_count, cell_in}
-use Rattle.batches.specs.Tables.{Heading, Body, rows, too_long, Table, Named, Told, RowFits, LawfulHeadings, Distinct}
+use Rattle.batches.specs.Tables.{Heading, Body, rows, too_long, Table, Told, RowFits, LawfulHeadings, Distinct}
 
 -- the most rows that a table has; one with more is marked too long
 abbrev pub most_rows : ℕ
@@ -14,14 +14,14 @@ most_rows = 1000000
 
 -- at most so many rows, which fit the headings; or the mark
 abbrev pub LawfulBody : List Heading → Body → Type 0
-LawfulBody hs (rows rs) = All (RowFits hs) rs × (length rs ≤ most_rows)
+LawfulBody hs (rows rs) = AllByRecursion (RowFits hs) rs × (length rs ≤ most_rows)
 LawfulBody hs too_long = Unit {0}
 
 -- what a store may tell: tables under lawful names, no two the same, with 1 to 8 columns and rows that fit them
 pub record Lawful (ts : Told) : Type 0 where
-  pub named : All (λ t. lawful_name t.name ≡ true) ts
-  pub headed : All (λ t. LawfulHeadings t.table.headings) ts
-  pub filled : All (λ t. LawfulBody t.table.headings t.table.body) ts
+  pub named : AllByRecursion (λ t. lawful_name t.name ≡ true) ts
+  pub headed : AllByRecursion (λ t. LawfulHeadings t.table.headings) ts
+  pub filled : AllByRecursion (λ t. LawfulBody t.table.headings t.table.body) ts
   pub distinct : Distinct ts
 
 -- the table that is told under a name

@@ -1,14 +1,14 @@
 -- The table of a series. Assumes nothing.
-use Rattle.std.specs.Prelude.{◌≡◌, ℕ, zero, suc, ◌+◌, ◌<◌, ◌≤◌, Bool, true, false, cond, ◌&&◌, List, [], ◌∷◌, map, length, ℤ, pos, ◌+ℤ◌, Some, None, Option, nat_le, refl}
-use Rattle.std.proofs.Common.{sym, ap, subst, ◌∙◌, arith, zero-add}
+use Rattle.std.specs.Prelude.{◌≡◌, ℕ, zero, suc, ◌<◌, ◌≤◌, Bool, true, false, cond, List, [], ◌∷◌, map, length, ℤ, pos, ◌+ℤ◌, Some, None, Option, nat_le, refl}
+use Rattle.std.proofs.Common.{sym, ap, subst, arith, zero-add}
 use Rattle.batches.proofs.Asking.{nth_counted, nth_counted_past}
 use Rattle.batches.specs.Asked.{cell_in, chained, row_count}
-use Rattle.batches.specs.Tables.{Heading, Body, rows, too_long, RowFits}
+use Rattle.batches.specs.Tables.{Heading, rows, too_long, RowFits}
 use Rattle.std.proofs.lemmas.List.FromFn.{get_or-map-range_with_len, length-map-range_with_len}
 use Rattle.std.proofs.ByRecursion.{All-from_get_or}
 use Rattle.std.proofs.lemmas.Int.{ints}
 use Rattle.std.proofs.lemmas.Bool.{leb-true}
-use Rattle.std.specs.List.{slice_get, range_with_len, AllByRecursion as All}
+use Rattle.std.specs.List.{slice_get, range_with_len, AllByRecursion}
 use Rattle.std.specs.Bool.{then_some}
 use Rattle.values.specs.Cells.{Cell, integer, in_range, lawful_cell}
 use Rattle.values.specs.Codes.{fits}
@@ -69,7 +69,7 @@ fits_row : (h : Heading) (z : ℤ) → h.holds ≡ Integer → in_range z ≡ tr
 unfolding lawful_cell fits
 fits_row h z e r = (r, ap (λ (t : ColumnType). fits t (integer z)) e, tt)
 
-pub numbers_fit : (h : Heading) → h.holds ≡ Integer → (a : ℤ) (n : ℕ) → ((k : ℕ) → k < n → in_range (a +ℤ pos k) ≡ true) → All (RowFits (h ∷ [])) (numbers_from a n)
+pub numbers_fit : (h : Heading) → h.holds ≡ Integer → (a : ℤ) (n : ℕ) → ((k : ℕ) → k < n → in_range (a +ℤ pos k) ≡ true) → AllByRecursion (RowFits (h ∷ [])) (numbers_from a n)
 unfolding numbers_from
 numbers_fit h e a n f =
     All-from_get_or (RowFits (h ∷ [])) (map (λ k. integer (a +ℤ pos k) ∷ []) (range_with_len 0 n)) []

@@ -4,7 +4,7 @@ use Rattle.std.proofs.Common.{sym, ap, subst, ◌∙◌, arith, length-append}
 use Rattle.std.proofs.ByRecursion.{All-append, all_kept_by, All-map, All-weaker}
 use Rattle.std.proofs.lemmas.Slice.Eq.{bytes_eq-Decides}
 use Rattle.std.proofs.lemmas.Bool.{both_ways, cond_both, leb-true}
-use Rattle.std.specs.List.{AllByRecursion as All}
+use Rattle.std.specs.List.{AllByRecursion}
 use Rattle.std.specs.Str.{bytes_eq}
 use Rattle.values.specs.Names.{lawful_name}
 use Rattle.batches.specs.Asked.{chained}
@@ -50,7 +50,7 @@ lookup_paired ts us n = lookup_front ts us (filter (untold ts) us) n ∙ go (loo
     go (Some t) e = refl
 
 -- what holds of each table holds of the one under a name
-pub lookup_all : (P : Table → Type 0) (ts : Told) (n : List ℕ) → All (λ t. P t.table) ts → IfSome (lookup ts n) P
+pub lookup_all : (P : Table → Type 0) (ts : Told) (n : List ℕ) → AllByRecursion (λ t. P t.table) ts → IfSome (lookup ts n) P
 unfolding lookup
 lookup_all P [] n h = tt
 lookup_all P (t ∷ ts) n h =
@@ -66,7 +66,7 @@ number_narrow ts n f a k h named known e =
     go (Some t) l i = l.few
 
 -- the names that are told can be looked up
-names_found : (ts : Told) → All (λ t. is_some (lookup ts t.name) ≡ true) ts
+names_found : (ts : Told) → AllByRecursion (λ t. is_some (lookup ts t.name) ≡ true) ts
 unfolding lookup
 names_found [] = tt
 names_found (t ∷ ts) = (
@@ -105,7 +105,7 @@ apart_untold ts n h (u ∷ us) =
     let ih = apart_untold ts n h us in
     cond_both (untold ts u) (u ∷ filter (untold ts) us) (filter (untold ts) us) (Apart n) (λ e. ((λ q. both_ways (not (is_some (lookup ts n))) (ap not h) (ap (λ (m : List ℕ). not (is_some (lookup ts m))) q ∙ e)), ih)) (λ e. ih)
 
-distinct_beside : (us rest ts : Told) → Distinct ts → Distinct rest → All (λ t. Apart t.name rest) ts → Distinct (map (beside us) ts ++ rest)
+distinct_beside : (us rest ts : Told) → Distinct ts → Distinct rest → AllByRecursion (λ t. Apart t.name rest) ts → Distinct (map (beside us) ts ++ rest)
 distinct_beside us rest [] d e a = e
 distinct_beside us rest (t ∷ ts) d e a =
     (apart_append t.name (map (beside us) ts) rest (apart_beside t.name us ts d.0) a.0, distinct_beside us rest ts d.1 e a.1)

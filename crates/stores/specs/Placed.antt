@@ -1,14 +1,14 @@
 -- Tables in places, found by name and by place, and told behind others. Assumes nothing.
 use Rattle.std.specs.Prelude.{◌≡◌, ℕ, zero, suc, Bool, true, false, cond, ◌||◌, List, [], ◌∷◌, ◌++◌, is_some, Some, None, Option, refl}
-use Rattle.std.proofs.Common.{sym, ap, ap₂, subst, ◌∙◌, arith}
+use Rattle.std.proofs.Common.{sym, ap, ◌∙◌, arith}
 use Rattle.batches.proofs.Commands.{distinct_push}
 use Rattle.batches.specs.Asked.{chained}
 use Rattle.batches.specs.Reading.{taken}
-use Rattle.batches.specs.Tables.{Table, Named, Told, LawfulHeadings, Distinct}
+use Rattle.batches.specs.Tables.{Table, Named, Told, LawfulHeadings}
 use Rattle.std.proofs.ByRecursion.{All-push}
 use Rattle.std.proofs.lemmas.Slice.Eq.{bytes_eq-Decides}
 use Rattle.std.proofs.lemmas.Bool.{both_ways}
-use Rattle.std.specs.List.{slice_get, AllByRecursion as All}
+use Rattle.std.specs.List.{slice_get, AllByRecursion}
 use Rattle.std.specs.Option.{option_map}
 use Rattle.std.specs.Str.{bytes_eq}
 use Rattle.values.specs.Names.{lawful_name}
@@ -135,9 +135,9 @@ lookup_new ts (u ∷ us) n = go (taken u.name ts) refl (lookup_new ts us n) (loo
 
 -- tables that are lawful each by itself
 pub record Each (us : Told) : Type 0 where
-  pub named : All (λ t. lawful_name t.name ≡ true) us
-  pub headed : All (λ t. LawfulHeadings t.table.headings) us
-  pub filled : All (λ t. LawfulBody t.table.headings t.table.body) us
+  pub named : AllByRecursion (λ t. lawful_name t.name ≡ true) us
+  pub headed : AllByRecursion (λ t. LawfulHeadings t.table.headings) us
+  pub filled : AllByRecursion (λ t. LawfulBody t.table.headings t.table.body) us
 
 pub each_lawful : (ts : Told) → Lawful ts → Each ts
 each_lawful ts h = record { named = h.named; headed = h.headed; filled = h.filled }

@@ -1,6 +1,6 @@
 -- The numbers, layers and places of the stores' refusals. Assumes nothing.
 use Rattle.std.specs.Prelude.{◌≡◌, ℕ, List, Ok, Err, Result}
-use Rattle.batches.specs.Reading.{Reading, tables, refused, reading}
+use Rattle.batches.specs.Reading.{tables, refused, reading}
 use Rattle.batches.specs.Tables.{Told}
 use Rattle.stores.specs.declared.faults.Layer as part
 use Rattle.stores.specs.declared.faults.Layer.TheVariants.{Reader as ReaderPart, Checker as CheckerPart, Runner as RunnerPart, Store as StorePart, Shelf as ShelfPart}

@@ -1,10 +1,10 @@
 -- What a series store tells. Assumes nothing.
-use Rattle.std.specs.Prelude.{◌≡◌, ℕ, suc, ◌+◌, Bool, true, false, cond, List, [], ◌∷◌, map, ℤ, pos, ◌+ℤ◌, ◌-ℤ◌, Some, None, Ok, Err, codes, Option, Result, int_le, nat_le, unsigned_abs}
+use Rattle.std.specs.Prelude.{◌≡◌, ℕ, ◌+◌, true, false, cond, List, [], ◌∷◌, map, ℤ, pos, ◌+ℤ◌, ◌-ℤ◌, Some, None, Ok, Err, codes, Option, Result, int_le, nat_le, unsigned_abs}
 use Rattle.std.specs.List.{range_with_len}
 use Rattle.std.specs.Option.{option_map}
 use Rattle.std.specs.Bool.{then_some}
 use Rattle.std.specs.Str.{bytes_eq}
-use Rattle.stores.specs.Refusals.{Refusal, store_layer, store_refusal}
+use Rattle.stores.specs.Refusals.{store_layer, store_refusal}
 use Rattle.stores.specs.declared.faults.StoreFault.{StoreFault}
 use Rattle.stores.specs.declared.series_store.OnlyTable.{OnlyTable}
 use Rattle.stores.specs.declared.series_store.Series.{Series}
@@ -13,7 +13,7 @@ use Rattle.values.specs.Named.{name_bytes}
 use Rattle.values.specs.Cells.{Cell, integer}
 use Rattle.values.specs.Names.{filled, lawful_name}
 use Rattle.values.specs.declared.kinds.ColumnType.TheVariants.{Integer}
-use Rattle.batches.specs.Tables.{Heading, Body, rows, too_long, Table, Named, Told}
+use Rattle.batches.specs.Tables.{Heading, Body, rows, too_long, Table, Told}
 use Rattle.stores.specs.Meaning.{most_rows}
 
 -- how many numbers there are from one to another: none where the first is the greater

@@ -1,5 +1,5 @@
 -- The laws of a store hold of a shelf. Assumes nothing.
-use Rattle.std.specs.Prelude.{◌≡◌, ℕ, Bool, true, false, List, [], ◌∷◌, is_some, Some, None, Option, refl}
+use Rattle.std.specs.Prelude.{◌≡◌, ℕ, true, false, List, [], ◌∷◌, is_some, Some, None, Option, refl}
 use Rattle.std.proofs.Common.{sym, ap, ap₂, ◌∙◌, arith}
 use Rattle.batches.specs.Asked.{chained}
 use Rattle.batches.specs.Tables.{Table, Told}

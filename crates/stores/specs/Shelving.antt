@@ -1,6 +1,6 @@
 -- What is proved of keeping and dropping, by what is told under each name. Assumes nothing.
 use Rattle.std.specs.Prelude.{◌≡◌, ℕ, ◌<◌, List, ◌++◌, Some, None, ◌≢◌}
-use Rattle.std.specs.List.{slice_get, AllByRecursion as All}
+use Rattle.std.specs.List.{slice_get, AllByRecursion}
 use Rattle.batches.specs.Tables.{Named, Told, Distinct}
 use Rattle.stores.specs.Meaning.{lookup}
 use Rattle.stores.specs.Places.{Places, in_places, place_holding}
@@ -35,7 +35,7 @@ DropFrees = (ts : Told) (ps : Places) (n : List ℕ) (i : ℕ) → Distinct (in_
 
 -- no kept name is told below
 abbrev pub Visible : Told → Places → Type 0
-Visible ts ps = All (λ t. lookup ts t.name ≡ None) (in_places ps)
+Visible ts ps = AllByRecursion (λ t. lookup ts t.name ≡ None) (in_places ps)
 
 -- Keeping and dropping leave every kept table visible.
 abbrev pub KeepVisible : Type 0

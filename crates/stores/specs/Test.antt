@@ -1,5 +1,5 @@
 -- A test whether tables are lawful, so that a store can keep the fact. Assumes nothing.
-use Rattle.std.specs.Prelude.{ℕ, Bool, true, false, not, ◌&&◌, ◌||◌, List, [], ◌∷◌, length, nat_le}
+use Rattle.std.specs.Prelude.{ℕ, Bool, true, false, not, ◌&&◌, List, [], ◌∷◌, length, nat_le}
 use Rattle.std.specs.Str.{bytes_eq}
 use Rattle.values.specs.Cells.{Cell, lawful_cell}
 use Rattle.values.specs.Codes.{fits}

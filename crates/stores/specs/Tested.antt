@@ -1,25 +1,24 @@
 -- The test of lawful tables finds just these. Assumes nothing.
-use Rattle.std.specs.Prelude.{◌≡◌, ℕ, ◌≤◌, Bool, true, false, not, ◌&&◌, List, [], ◌∷◌, length, nat_le, refl}
+use Rattle.std.specs.Prelude.{◌≡◌, ℕ, Bool, true, false, not, List, [], ◌∷◌, length, nat_le, refl}
 use Rattle.std.proofs.lemmas.Slice.Eq.{bytes_eq-Decides}
-use Rattle.std.proofs.lemmas.Bool.{and_from, and_parts, both_ways, leb-true, le-leb, not_from_false, not-true}
-use Rattle.std.proofs.lemmas.Bool.Decides.{not_from_Decides}
-use Rattle.std.specs.List.{AllByRecursion as All}
+use Rattle.std.proofs.lemmas.Bool.{and_from, and_parts, both_ways, leb-true, le-leb, not-true}
+use Rattle.std.specs.List.{AllByRecursion}
 use Rattle.std.specs.Str.{bytes_eq}
 use Rattle.values.specs.Cells.{Cell, lawful_cell}
 use Rattle.values.specs.Codes.{fits}
 use Rattle.values.specs.Names.{lawful_name}
 use Rattle.batches.specs.Described.{Described, RowsUpTo}
-use Rattle.batches.specs.Tables.{Heading, Body, rows, too_long, Named, Told, RowFits, LawfulHeadings, Apart, Distinct}
+use Rattle.batches.specs.Tables.{Heading, Body, rows, too_long, Told, RowFits, LawfulHeadings, Apart, Distinct}
 use Rattle.batches.specs.Written.{BodyFits}
 use Rattle.stores.specs.Meaning.{Lawful, LawfulBody, most_rows}
 use Rattle.stores.specs.Test.{every, is_lawful, test_apart, test_body, test_distinct, test_headings, test_row, test_table}
 
 -- a test of each element, and what it shows
-all_from : {X : Type 0} (p : X → Bool) (P : X → Type 0) → ((x : X) → p x ≡ true → P x) → (xs : List X) → every p xs ≡ true → All P xs
+all_from : {X : Type 0} (p : X → Bool) (P : X → Type 0) → ((x : X) → p x ≡ true → P x) → (xs : List X) → every p xs ≡ true → AllByRecursion P xs
 all_from p P f [] h = tt
 all_from p P f (x ∷ xs) h = let q = and_parts (p x) (every p xs) h in (f x q.0, all_from p P f xs q.1)
 
-all_to : {X : Type 0} (p : X → Bool) (P : X → Type 0) → ((x : X) → P x → p x ≡ true) → (xs : List X) → All P xs → every p xs ≡ true
+all_to : {X : Type 0} (p : X → Bool) (P : X → Type 0) → ((x : X) → P x → p x ≡ true) → (xs : List X) → AllByRecursion P xs → every p xs ≡ true
 all_to p P f [] h = refl
 all_to p P f (x ∷ xs) h = and_from (p x) (every p xs) (f x h.0) (all_to p P f xs h.1)
 
@@ -99,7 +98,7 @@ lawful_from_test ts h =
       distinct = distinct_from ts q.1;
     }
 
-every_table : (ts : Told) → All (λ t. lawful_name t.name ≡ true) ts → All (λ t. LawfulHeadings t.table.headings) ts → All (λ t. LawfulBody t.table.headings t.table.body) ts → every test_table ts ≡ true
+every_table : (ts : Told) → AllByRecursion (λ t. lawful_name t.name ≡ true) ts → AllByRecursion (λ t. LawfulHeadings t.table.headings) ts → AllByRecursion (λ t. LawfulBody t.table.headings t.table.body) ts → every test_table ts ≡ true
 every_table [] n h f = refl
 every_table (t ∷ ts) n h f =
     and_from _ _ (and_from _ _ n.0 (and_from _ _ (headings_to t.table.headings h.0) (body_to t.table.headings t.table.body f.0))) (every_table ts n.1 h.1 f.1)
@@ -109,7 +108,7 @@ unfolding is_lawful
 test_from_lawful ts h = and_from _ _ (every_table ts h.named h.headed h.filled) (distinct_to ts h.distinct)
 
 -- what a batch is read as is lawful
-bodies : (ts : Told) → All (λ t. BodyFits t.table.headings t.table.body) ts → All (λ t. RowsUpTo 1000000 t.table.body) ts → All (λ t. LawfulBody t.table.headings t.table.body) ts
+bodies : (ts : Told) → AllByRecursion (λ t. BodyFits t.table.headings t.table.body) ts → AllByRecursion (λ t. RowsUpTo 1000000 t.table.body) ts → AllByRecursion (λ t. LawfulBody t.table.headings t.table.body) ts
 bodies [] f s = tt
 bodies (t ∷ ts) f s = (go t.table.body f.0 s.0, bodies ts f.1 s.1)
   where

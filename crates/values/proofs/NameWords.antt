@@ -1,10 +1,10 @@
 -- The lawful names are the words, filled with spaces, that the rule of names admits. Assumes nothing.
-use Rattle.std.proofs.Common.{◌≡◌, ℕ, zero, suc, ◌+◌, ◌-◌, ◌≤◌, Bool, true, false, cond, not, ◌&&◌, eqb, ◌⊎◌, List, [], ◌∷◌, ◌++◌, map, length, get_or, replicate, codes, sym, refl, ap, ◌∙◌, subst, ap₂, inl, inr, arith}
+use Rattle.std.proofs.Common.{◌≡◌, ℕ, zero, suc, ◌+◌, ◌-◌, ◌≤◌, Bool, true, false, cond, ◌&&◌, eqb, ◌⊎◌, List, [], ◌∷◌, ◌++◌, map, length, get_or, replicate, codes, sym, refl, ap, ◌∙◌, subst, ap₂, inl, inr, arith}
 use Rattle.std.proofs.lemmas.Slice.Eq.{bytes_eq-Decides}
 use Rattle.std.proofs.lemmas.List.{length-append, length-replicate}
 use Rattle.std.proofs.lemmas.Bool.{and_parts, and_from, or_cases, or_parts, or_from, not-true, not_from_false, eqb-true, eq-eqb, false≢true}
 use Rattle.std.proofs.lemmas.Bool.Decides.{not_from_Decides, nat_tests}
-use Rattle.std.specs.List.{AllByRecursion as All}
+use Rattle.std.specs.List.{AllByRecursion}
 use Rattle.std.specs.Str.{bytes_eq}
 use Rattle.values.specs.Bytes.{each, spaces}
 use Rattle.values.specs.Laws.{IsName, NamesAreWords}
@@ -16,7 +16,7 @@ use Rattle.values.proofs.NameTails.{tail_more}
 -- ---- a tail is the rest of a word and spaces
 
 abbrev Named : List ℕ → Type 0
-Named = All (λ b. name_byte b ≡ true)
+Named = AllByRecursion (λ b. name_byte b ≡ true)
 
 record Split (bs : List ℕ) : Type 0 where
   word : List ℕ
@@ -69,7 +69,7 @@ apart xs ys h = from (bytes_eq xs ys) refl
     from true e = absurd (h ((bytes_eq-Decides xs ys).0 e))
     from false e = refl
 
-among_free : (w : List ℕ) (ks : List (List ℕ)) → among (filled w) (map filled ks) ≡ false → All (λ k. w ≡ k → ⊥) ks
+among_free : (w : List ℕ) (ks : List (List ℕ)) → among (filled w) (map filled ks) ≡ false → AllByRecursion (λ k. w ≡ k → ⊥) ks
 among_free w [] h = tt
 among_free w (k ∷ ks) h =
     let p = or_parts (bytes_eq (filled w) (filled k)) (among (filled w) (map filled ks)) h in (
@@ -77,7 +77,7 @@ among_free w (k ∷ ks) h =
       among_free w ks p.1,
     )
 
-free_among : (w : List ℕ) (ks : List (List ℕ)) → Named w → All Named ks → All (λ k. w ≡ k → ⊥) ks → among (filled w) (map filled ks) ≡ false
+free_among : (w : List ℕ) (ks : List (List ℕ)) → Named w → AllByRecursion Named ks → AllByRecursion (λ k. w ≡ k → ⊥) ks → among (filled w) (map filled ks) ≡ false
 free_among w [] n ns h = refl
 free_among w (k ∷ ks) n (m, ns) (h, hs) =
     or_from (bytes_eq (filled w) (filled k)) (among (filled w) (map filled ks))
@@ -88,7 +88,7 @@ named_word : (w : List ℕ) → each name_byte w ≡ true → Named w
 named_word [] h = tt
 named_word (b ∷ w) h = let p = and_parts (name_byte b) (each name_byte w) h in (p.0, named_word w p.1)
 
-keywords_named : All Named keyword_words
+keywords_named : AllByRecursion Named keyword_words
 keywords_named = (
   named_word (codes "select") refl,
   (
@@ -141,7 +141,7 @@ filled_lawful :
     length w ≤ 16 →
     letter (get_or w 0 0) ≡ true →
     Named w →
-    All (λ k. w ≡ k → ⊥) keyword_words →
+    AllByRecursion (λ k. w ≡ k → ⊥) keyword_words →
     lawful_name (filled w) ≡ true
 unfolding lawful_name
 filled_lawful [] h l f a k = absurd (omega arith)

@@ -1,5 +1,5 @@
 -- Names handed over as sixteen bytes. Assumes nothing.
-use Rattle.std.proofs.Common.{◌≡◌, ℕ, Bool, true, false, List, length, Some, None, Option, refl, ap, ◌∙◌, arith}
+use Rattle.std.proofs.Common.{◌≡◌, ℕ, Bool, true, false, List, length, Some, None, refl, ap, ◌∙◌, arith}
 use Rattle.values.proofs.Filled.{filled_whole}
 use Rattle.values.specs.Named.{name_bytes, name_from, name_if}
 use Rattle.values.specs.Names.{lawful_name}

@@ -3,12 +3,12 @@ use Rattle.std.proofs.Common.{◌≡◌, ℕ, zero, suc, ◌+◌, ◌*◌, ◌/�
 use native.Mathlib.Nat.{pow-succ', one-le-pow, add-mul-div_right, add-mul-mod_self_right, pow-le-pow_right}
 use lib.Arith.{digits_lt, digits_div, mod-mul}
 use Rattle.std.proofs.lemmas.List.{take_more}
-use Rattle.std.specs.List.{AllByRecursion as All}
+use Rattle.std.specs.List.{AllByRecursion}
 use Rattle.values.specs.Bytes.{bytes_of, number_of}
 
 -- each element is a byte
 abbrev pub Bytes : List ℕ → Type 0
-Bytes = All (λ b. b < 256)
+Bytes = AllByRecursion (λ b. b < 256)
 
 pub power_positive : (k : ℕ) → zero < 256 ^ k
 power_positive k = one-le-pow k 256 (lit< tt)

@@ -1,6 +1,6 @@
 -- What names are, and what cells and their seventeen bytes have to do with one another. Assumes nothing.
 use Rattle.std.specs.Prelude.{◌≡◌, ℕ, ◌<◌, ◌≤◌, true, ◌⊎◌, List, ◌∷◌, length, replicate, Some, ◌≢◌, slice_index}
-use Rattle.std.specs.List.{AllByRecursion as All}
+use Rattle.std.specs.List.{AllByRecursion}
 use Rattle.values.specs.Cells.{Cell, lawful_cell}
 use Rattle.values.specs.Codes.{decoded, encoded}
 use Rattle.values.specs.Names.{filled, keyword_words, lawful_name, letter, name_byte}
@@ -12,8 +12,8 @@ pub record IsName (bs : List ℕ) : Type 0 where
   pub some : 1 ≤ length word
   pub short : length word ≤ 16
   pub first : letter (slice_index word 0) ≡ true
-  pub all : All (λ b. name_byte b ≡ true) word
-  pub free : All (λ k. word ≢ k) keyword_words
+  pub all : AllByRecursion (λ b. name_byte b ≡ true) word
+  pub free : AllByRecursion (λ k. word ≢ k) keyword_words
 
 -- the test of sixteen bytes finds just these
 abbrev pub NamesAreWords : Type 0
@@ -30,4 +30,4 @@ DecodesWhatIsEncoded = (c : Cell) → lawful_cell c ≡ true → decoded (encode
 -- what is read is written as the bytes it was read from, but for negative zero
 abbrev pub EncodesWhatIsDecoded : Type 0
 EncodesWhatIsDecoded =
-    (bs : List ℕ) → All (λ b. b < 256) bs → (c : Cell) → decoded bs ≡ Some c → (encoded c ≡ bs) ⊎ (bs ≡ negative_zero_bytes)
+    (bs : List ℕ) → AllByRecursion (λ b. b < 256) bs → (c : Cell) → decoded bs ≡ Some c → (encoded c ≡ bs) ⊎ (bs ≡ negative_zero_bytes)

@@ -1,7 +1,7 @@
-use Rattle.std.proofs.Common.{◌≡◌, ℕ, List, length, drop, sym, ap, ◌∙◌, ap₂, arith, rules}
+use Rattle.std.proofs.Common.{ℕ, length, drop, ap, ◌∙◌, ap₂, arith}
 use Rattle.std.proofs.lemmas.Result.{err_from_is_err_and}
 use Rattle.batches.specs.Checking.{reading_by}
-use Rattle.batches.specs.Reading.{Reading, refused, State, run}
+use Rattle.batches.specs.Reading.{refused, State, run}
 use Rattle.batches.specs.declared.layout.BatchFault.{BatchFault}
 use Rattle.batches.proofs.Described.{tables_described}
 use Rattle.batches.proofs.Exactly.{reads_exactly, one_reading}

@@ -1,5 +1,5 @@
-use Rattle.std.proofs.Common.{◌≡◌, ℕ, ◌+◌, ◌-◌, ◌*◌, ◌<◌, ◌≤◌, List, length, get_or, sym, refl, ap, ◌∙◌, subst, ap₂, arith}
-use Rattle.reader.specs.Words.{decimal_of, digits_in}
+use Rattle.std.proofs.Common.{◌≡◌, ℕ, ◌+◌, ◌-◌, ◌≤◌, List, length, get_or, sym, ap, ◌∙◌, subst, arith}
+use Rattle.reader.specs.Words.{digits_in}
 use Rattle.reader.proofs.Digits.{SoFar, digit_most, digits_grow, digits_more, digits_none, digits_same, so_far_as, so_far_done, so_far_fits, so_far_more, so_far_none, so_far_small, pushed, too_many}
 use Rattle.reader.proofs.numbers.decimal.Goals as goal
 use Rattle.reader.proofs.numbers.decimal.Goals.{then-is_ascii_digit+else-count-eq15, else-is_ascii_digit}

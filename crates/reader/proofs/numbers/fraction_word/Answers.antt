@@ -1,4 +1,4 @@
-use Rattle.std.proofs.Common.{◌≡◌, ℕ, ◌+◌, ◌-◌, Some, None, ap, ◌∙◌, arith}
+use Rattle.std.proofs.Common.{Some, None, ap, ◌∙◌, arith}
 use Rattle.values.specs.Cells.{Cell}
 use Rattle.reader.specs.Words.{found, literal}
 use Rattle.reader.proofs.NumbersScanned.{behind_point, fraction_word, point_within}

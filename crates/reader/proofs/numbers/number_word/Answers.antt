@@ -1,4 +1,4 @@
-use Rattle.std.proofs.Common.{◌≡◌, pos, Some, None, sym, ap, ◌∙◌, arith, w32, to_z}
+use Rattle.std.proofs.Common.{◌≡◌, pos, Some, None, ap, ◌∙◌, arith, w32, to_z}
 use Rattle.values.specs.Cells.{Cell, integer}
 use Rattle.reader.specs.Words.{found, literal}
 use Rattle.reader.proofs.NumbersScanned.{whole_found, whole_large, whole_word}

@@ -1,4 +1,4 @@
-use Rattle.std.proofs.Common.{◌≡◌, ℕ, pos, Option, unwrap_or, ap, ◌∙◌}
+use Rattle.std.proofs.Common.{ℕ, pos, Option, unwrap_or, ap, ◌∙◌}
 use lib.Ieee.{binary64, div, of_int}
 use Rattle.values.specs.Cells.{Cell, null}
 use Rattle.values.specs.Made.{real_cell}

@@ -1,4 +1,4 @@
-use Rattle.std.proofs.Common.{◌≡◌, ℕ, ◌-◌, List, set, sym, ◌∙◌, ap₂, arith}
+use Rattle.std.proofs.Common.{ℕ, ◌-◌, List, set, sym, ◌∙◌, ap₂, arith}
 use Rattle.reader.proofs.Letters.{letters_more, letters_none}
 use Rattle.reader.proofs.scanning.small_letters.Goals as goal
 

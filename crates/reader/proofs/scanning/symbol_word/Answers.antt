@@ -1,4 +1,4 @@
-use Rattle.std.proofs.Common.{◌≡◌, get_or, Some, None, refl, ◌∙◌}
+use Rattle.std.proofs.Common.{get_or, Some, None, refl, ◌∙◌}
 use Rattle.reader.specs.Words.{short_symbol}
 use Rattle.reader.proofs.Symbols.{long_here, symbol_here}
 use Rattle.reader.proofs.scanning.symbol_word.Goals as goal

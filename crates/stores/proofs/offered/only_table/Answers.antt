@@ -1,4 +1,4 @@
-use Rattle.std.proofs.Common.{◌≡◌, sym, ◌∙◌}
+use Rattle.std.proofs.Common.{sym, ◌∙◌}
 use Rattle.batches.specs.Layouts.{told_by}
 use Rattle.batches.specs.Reading.{reading}
 use Rattle.stores.proofs.Offering.{not_one, one_offered, unread}

@@ -1,4 +1,4 @@
-use Rattle.std.proofs.Common.{◌≡◌, ℕ, List, [], ◌∷◌, Some, None, Option, refl, ◌∙◌, arith}
+use Rattle.std.proofs.Common.{◌≡◌, ℕ, List, [], ◌∷◌, Some, None, refl, ◌∙◌, arith}
 use Rattle.values.specs.Named.{name_from}
 use Rattle.values.specs.Names.{filled, lawful_name}
 use Rattle.stores.proofs.series.series_column.Goals as goal

@@ -1,8 +1,7 @@
 use Rattle.std.proofs.Common.{◌≡◌, ℕ, ◌⊎◌, List, sym, ap, inl, inr}
 use Rattle.batches.specs.Checking.{state_of}
-use Rattle.batches.specs.Reading.{Reading, State, refused, close}
+use Rattle.batches.specs.Reading.{State, refused, close}
 use Rattle.batches.specs.declared.checker.Checker.{Checker}
-use Rattle.batches.specs.declared.checker.Stage.{Stage as Expects}
 use Rattle.batches.specs.declared.checker.Stage.TheVariants.{Between, Columns, Cells}
 use Rattle.batches.proofs.Stages.{state_is}
 use Rattle.batches.proofs.checker.Checker.close.Goals as goal

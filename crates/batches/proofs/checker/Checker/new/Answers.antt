@@ -1,8 +1,8 @@
-use Rattle.std.proofs.Common.{[], take, sym, refl, ap, subst, arith}
-use Rattle.std.specs.List.{AllByRecursion as All}
+use Rattle.std.proofs.Common.{take, sym, refl, ap, subst, arith}
+use Rattle.std.specs.List.{AllByRecursion}
 use Rattle.batches.specs.Checking.{state_of}
 use Rattle.batches.specs.Layouts.{Lies}
-use Rattle.batches.specs.Reading.{State, between}
+use Rattle.batches.specs.Reading.{between}
 use Rattle.batches.specs.Tables.{Told}
 use Rattle.batches.proofs.checker.Checker.new.Goals as goal
 
@@ -12,7 +12,7 @@ returns c =
     λ bs. (
       record {
         within = omega arith;
-        inside = subst (λ n. All (Lies bs) (take n c.empty.result.tables)) (sym c.empty.ensures.count) tt;
+        inside = subst (λ n. AllByRecursion (Lies bs) (take n c.empty.result.tables)) (sym c.empty.ensures.count) tt;
         stands = tt;
       },
       ap (λ (ts : Told). record { done = ts; stage = between }) (c.empty.ensures.none bs),

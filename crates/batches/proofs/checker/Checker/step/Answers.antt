@@ -1,5 +1,4 @@
-use Rattle.std.proofs.Common.{◌≡◌, get_or, arith, rules}
-use Rattle.batches.specs.Checking.{CellByte}
+use Rattle.std.proofs.Common.{◌≡◌, arith, rules}
 use Rattle.batches.specs.declared.checker.Stage.TheVariants.{Between, Columns, Cells}
 use Rattle.batches.proofs.OtherBytes.{no_table, no_column, no_cell_or_end}
 use Rattle.batches.proofs.checker.Checker.step.Goals as goal

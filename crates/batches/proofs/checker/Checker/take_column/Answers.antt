@@ -1,9 +1,4 @@
-use Rattle.std.proofs.Common.{◌≡◌, ℕ, ◌+◌, true, false, ◌⊎◌, get_or, is_some, Some, None, Option, sym, ◌∙◌, inl, inr, arith}
-use Rattle.std.proofs.lemmas.Bool.{not-true, not-false}
-use Rattle.values.specs.Codes.{type_of}
-use Rattle.values.specs.Names.{lawful_name}
-use Rattle.values.specs.declared.kinds.ColumnType.{ColumnType}
-use Rattle.batches.specs.Layouts.{slice_at}
+use Rattle.std.proofs.Common.{sym, ◌∙◌, inl, inr, arith}
 use Rattle.batches.proofs.NameParts.{name_some, none_when, some_when}
 use Rattle.batches.proofs.NewColumns.{ninth_column, column_cut, column_unlawful, column_taken, column_placed}
 use Rattle.batches.proofs.checker.Checker.take_column.Goals as goal

@@ -1,6 +1,6 @@
-use Rattle.std.proofs.Common.{◌≡◌, ℕ, ◌+◌, ◌≤◌, List, [], ◌∷◌, ◌++◌, length, sym, ap, ◌∙◌, inl, inr, arith, rules}
+use Rattle.std.proofs.Common.{◌≡◌, length, sym, ap, ◌∙◌, inl, inr, arith, rules}
 use Rattle.batches.specs.Checking.{state_of}
-use Rattle.batches.specs.Reading.{State, Step, goes, between}
+use Rattle.batches.specs.Reading.{goes, between}
 use Rattle.batches.specs.Tables.{Told}
 use Rattle.batches.proofs.Ends.{closing, end_refused, end_taken, rows_few, closing_lies, inside_more, room_left}
 use Rattle.batches.proofs.Stages.{told_more}

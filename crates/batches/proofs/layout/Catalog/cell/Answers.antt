@@ -1,7 +1,7 @@
-use Rattle.std.proofs.Common.{◌≡◌, ℕ, ◌^◌, ◌<◌, Some, None, sym, ap, ◌∙◌, arith, rules}
+use Rattle.std.proofs.Common.{◌^◌, ◌<◌, Some, None, sym, ap, ◌∙◌, rules}
 use Rattle.std.specs.Option.{option_map}
 use Rattle.values.specs.Cells.{cell_of}
-use Rattle.batches.specs.Layouts.{cell_at, cell_offset}
+use Rattle.batches.specs.Layouts.{cell_at}
 use Rattle.batches.proofs.Asking.{cell_by_lem, cell_found, cell_past, offset_below}
 use Rattle.batches.proofs.layout.Catalog.cell.Goals as goal
 

@@ -1,4 +1,4 @@
-use Rattle.std.proofs.Common.{◌≡◌, ℕ, List, sym, ap, ◌∙◌}
+use Rattle.std.proofs.Common.{ℕ, List, sym, ap, ◌∙◌}
 use Rattle.batches.specs.Layouts.{told_by}
 use Rattle.batches.specs.Reading.{tables}
 use Rattle.values.proofs.Operands.{bytes_typed}

@@ -1,4 +1,4 @@
-use Rattle.std.proofs.Common.{◌≡◌, true, sym, refl, ap, ◌∙◌, subst}
+use Rattle.std.proofs.Common.{ap}
 use Rattle.stores.specs.Batched.{batch_told}
 use Rattle.stores.specs.Test.{is_lawful}
 use Rattle.stores.proofs.batch_store.BatchStore.new.Goals as goal

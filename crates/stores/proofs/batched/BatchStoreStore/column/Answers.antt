@@ -1,4 +1,4 @@
-use Rattle.std.proofs.Common.{◌≡◌, ℕ, List, vec_items, ap, ◌∙◌}
+use Rattle.std.proofs.Common.{ℕ, List, ap, ◌∙◌}
 use Rattle.batches.specs.Layouts.{told_by}
 use Rattle.stores.specs.Batched.{batch_told}
 use Rattle.batches.proofs.Described.{columns_told}

@@ -1,4 +1,4 @@
-use Rattle.std.proofs.Common.{◌≡◌, ℕ, List, [], ◌∷◌, take, ap, ◌∙◌}
+use Rattle.std.proofs.Common.{ℕ, List, [], ◌∷◌, take, ap, ◌∙◌}
 use Rattle.batches.specs.Asked.{column_asked}
 use Rattle.batches.specs.Layouts.{told_by}
 use Rattle.stores.specs.Held.{held_as}

@@ -1,4 +1,4 @@
-use Rattle.std.proofs.Common.{◌≡◌, sym, refl, ap, ◌∙◌}
+use Rattle.std.proofs.Common.{sym, ap, ◌∙◌}
 use Rattle.values.proofs.Operands.{bytes_typed}
 use Rattle.stores.specs.Kept.{kept_as}
 use Rattle.stores.specs.Refusals.{store_refusal}

@@ -1,5 +1,4 @@
-use Rattle.std.proofs.Common.{◌≡◌, Option, ap, ◌∙◌}
-use Rattle.batches.specs.Columns.{heading_of}
+use Rattle.std.proofs.Common.{Option, ap, ◌∙◌}
 use Rattle.batches.specs.Tables.{Table}
 use Rattle.std.specs.Option.{option_map}
 use Rattle.values.specs.Cells.{cell_of}

@@ -1,8 +1,7 @@
-use Rattle.std.proofs.Common.{◌≡◌, Option, ap, ◌∙◌}
+use Rattle.std.proofs.Common.{Option, ap, ◌∙◌}
 use Rattle.batches.specs.Columns.{heading_of}
 use Rattle.batches.specs.Tables.{Table}
 use Rattle.std.specs.Option.{option_map}
-use Rattle.values.specs.Cells.{cell_of}
 use Rattle.stores.specs.Meaning.{column_of}
 use Rattle.stores.proofs.kept_tables.KeptTables.column.Goals as goal
 

@@ -1,8 +1,4 @@
-use Rattle.std.proofs.Common.{◌≡◌, Option, ap, ◌∙◌}
-use Rattle.batches.specs.Columns.{heading_of}
-use Rattle.batches.specs.Tables.{Table}
-use Rattle.std.specs.Option.{option_map}
-use Rattle.values.specs.Cells.{cell_of}
+use Rattle.std.proofs.Common.{ap, ◌∙◌}
 use Rattle.stores.specs.Meaning.{count_of}
 use Rattle.stores.proofs.kept_tables.KeptTables.count.Goals as goal
 

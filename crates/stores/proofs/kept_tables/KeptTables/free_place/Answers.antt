@@ -1,4 +1,4 @@
-use Rattle.std.proofs.Common.{◌≡◌, ℕ, refl}
+use Rattle.std.proofs.Common.{refl}
 use Rattle.stores.specs.Places.{first_place, is_free}
 use Rattle.stores.proofs.KeptFound.{free_held, kept_found, kept_nowhere, kept_on}
 use Rattle.stores.proofs.kept_tables.KeptTables.free_place.Goals as goal

@@ -1,4 +1,4 @@
-use Rattle.std.proofs.Common.{◌≡◌, ℕ, Some, None, sym, refl}
+use Rattle.std.proofs.Common.{Some, None, sym, refl}
 use Rattle.values.specs.Named.{name_bytes}
 use Rattle.stores.specs.Held.{held_as}
 use Rattle.stores.specs.Places.{first_place, is_named}

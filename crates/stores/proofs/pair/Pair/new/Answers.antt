@@ -1,4 +1,4 @@
-use Rattle.std.proofs.Common.{refl, rules}
+use Rattle.std.proofs.Common.{refl}
 use Rattle.stores.proofs.Agreeing.{counterpart, counterpart_firsts, equal_reflexive, equal_symmetric, equal_transitive, like_gives_equal, like_reflexive, like_symmetric, like_transitive}
 use Rattle.stores.proofs.PairLaws.{pair_alike, pair_of_equals, pair_single, pair_unlike}
 use Rattle.stores.proofs.pair.Pair.new.Goals as goal

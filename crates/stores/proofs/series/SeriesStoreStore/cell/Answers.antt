@@ -1,4 +1,4 @@
-use Rattle.std.proofs.Common.{◌≡◌, ℕ, ◌<◌, ◌≤◌, Some, None, Option, sym, refl, ap, ◌∙◌, arith}
+use Rattle.std.proofs.Common.{◌≡◌, ℕ, Some, Option, sym, ap, ◌∙◌, arith}
 use Rattle.batches.specs.Asked.{cell_in}
 use Rattle.batches.specs.Tables.{Body, rows}
 use Rattle.std.specs.Option.{option_map}

@@ -1,5 +1,4 @@
-use Rattle.std.proofs.Common.{◌≡◌, ℕ, Bool, true, List, [], ◌∷◌, length, ℤ, sym, refl, ap, ◌∙◌, ap₂, w32, to_z, of_z, rules}
-use Rattle.batches.specs.Tables.{Named, Told}
+use Rattle.std.proofs.Common.{◌≡◌, ℕ, List, [], ◌∷◌, length, ℤ, ap, ◌∙◌, ap₂, w32, to_z, of_z, rules}
 use Rattle.std.proofs.lemmas.Int.{to_z-of_z}
 use Rattle.stores.specs.Series.{series_table, series_told}
 use Rattle.values.proofs.NamesWhole.{name_taken}

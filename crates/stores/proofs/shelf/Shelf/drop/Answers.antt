@@ -1,4 +1,4 @@
-use Rattle.std.proofs.Common.{◌≡◌, ℕ, List, length, Some, None, sym, refl, ap, ◌∙◌, ap₂, rules}
+use Rattle.std.proofs.Common.{◌≡◌, ℕ, length, sym, refl, ap, ◌∙◌, rules}
 use Rattle.values.specs.Named.{name_bytes}
 use Rattle.stores.specs.Places.{is_named, place_holding}
 use Rattle.stores.specs.Shelved.{Outcome, after_drop, holds_in, refusal_of}

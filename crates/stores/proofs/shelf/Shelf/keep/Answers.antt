@@ -1,14 +1,12 @@
-use Rattle.std.proofs.Common.{◌≡◌, Bool, true, false, is_some, sym, refl, ap, ◌∙◌}
+use Rattle.std.proofs.Common.{◌≡◌, true, false, is_some, sym, refl, ap, ◌∙◌}
 use Rattle.stores.specs.Held.{held_as}
 use Rattle.stores.specs.Kept.{kept_as}
-use Rattle.stores.specs.Meaning.{lookup}
 use Rattle.stores.specs.Places.{is_free, place_holding}
 use Rattle.stores.specs.Refusals.{shelf_refusal}
-use Rattle.stores.specs.Shelved.{Outcome, Placing, after_keep, holds_in, refusal_of, shelf_number, shelf_told}
+use Rattle.stores.specs.Shelved.{Outcome, Placing, after_keep, holds_in, refusal_of, shelf_number}
 use Rattle.values.specs.Named.{name_bytes}
 use Rattle.stores.proofs.ShelfCalls.{answered_err, found_none, keep_done, keep_full, keep_refused, keep_told, kept_apart, place_within, shelf_found}
 use Rattle.stores.proofs.Shelving.{keep_tells, keep_visible}
-use Rattle.stores.proofs.shelf.Shelf.keep.Given as given
 use Rattle.stores.proofs.shelf.Shelf.keep.Goals as goal
 
 pub returns-in_err-table : goal.returns-in_err-table
