@@ -10,6 +10,7 @@ pub mod Loaded
 pub mod NamesInOrder
 pub mod Offering
 pub mod PairLaws
+pub mod Placed
 pub mod PlacesChanged
 pub mod ShelfCalls
 pub mod Shelving

@@ -14,7 +14,7 @@ use Rattle.stores.specs.Shelved.{Outcome, Placing, done, refuses, after_drop, af
 use Rattle.stores.specs.Shelving.{AllTold, DropFrees, DropVisible, KeepTells, KeepVisible, Visible}
 use Rattle.stores.specs.Refusals.{by_shelf}
 use Rattle.stores.proofs.Offering.{done_refuses}
-use Rattle.stores.specs.Placed.{either, free_lookup, lookup_push, place_known, place_name, place_stands}
+use Rattle.stores.specs.Placed.{either, free_lookup, lookup_push, holding_known, holding_name, holding_stands}
 use Rattle.stores.proofs.PlacesChanged.{differ, first_filled, first_unchanged, somewhere, at_first, unnamed_freed}
 use Rattle.stores.specs.ShelfNumbers.{shelf_lookup}
 
@@ -62,12 +62,12 @@ unplaced ps n e = by (place_holding ps n) refl
     by : (o : Option ℕ) → place_holding ps n ≡ o → place_holding ps n ≡ None
     by None x = x
     by (Some i) x =
-        let stands : table_in ps i ≡ None = sym (ap (λ (o : Option ℕ). chained o (table_in ps)) x) ∙ (place_stands ps n ∙ e) in
-        absurd (both_ways (is_some (table_in ps i)) (ap is_some stands) (place_known ps n i x))
+        let stands : table_in ps i ≡ None = sym (ap (λ (o : Option ℕ). chained o (table_in ps)) x) ∙ (holding_stands ps n ∙ e) in
+        absurd (both_ways (is_some (table_in ps i)) (ap is_some stands) (holding_known ps n i x))
 
 -- and under a name that is in no place none is told
 untold_in : (ps : Places) (n : List ℕ) → place_holding ps n ≡ None → lookup (in_places ps) n ≡ None
-untold_in ps n e = sym (place_stands ps n) ∙ ap (λ (o : Option ℕ). chained o (table_in ps)) e
+untold_in ps n e = sym (holding_stands ps n) ∙ ap (λ (o : Option ℕ). chained o (table_in ps)) e
 
 -- a place that does not hold a name says nothing of it
 silent : (o : Option Named) (ps : Places) (m : List ℕ) → is_named m o ≡ false → lookup (in_places (o ∷ ps)) m ≡ lookup (in_places ps) m
@@ -126,7 +126,7 @@ keep_tells ts ps n bs p e =
       told =
           shelf_lookup ts (set ps p.place (Some p.kept)) name ∙
           (ap (λ (o : Option Table). either o (lookup (in_places (set ps p.place (Some p.kept))) name)) nones.0 ∙
-          (sym (place_stands (set ps p.place (Some p.kept)) name) ∙
+          (sym (holding_stands (set ps p.place (Some p.kept)) name) ∙
           (ap (λ (o : Option ℕ). chained o (table_in (set ps p.place (Some p.kept)))) at ∙ table_set ps p.place p.kept within)));
       others = λ m d. told_unchanged ts ps m p.place None (Some p.kept) free refl (differ m name d);
       steady = λ m d. first_unchanged (is_named m) ps p.place None (Some p.kept) free refl (differ m name d);
@@ -136,7 +136,7 @@ keep_tells ts ps n bs p e =
 
 -- the table in the place of a name
 held_at : (ps : Places) (n : List ℕ) (i : ℕ) → place_holding ps n ≡ Some i → (t : Named) × (slice_get ps i ≡ Some (Some t)) × (t.name ≡ n)
-held_at ps n i e = by (slice_get ps i) refl (place_name ps n i e)
+held_at ps n i e = by (slice_get ps i) refl (holding_name ps n i e)
   where
     by : (o : Option (Option Named)) → slice_get ps i ≡ o → chained o (option_map (λ t. t.name)) ≡ Some n → (t : Named) × (slice_get ps i ≡ Some (Some t)) × (t.name ≡ n)
     by None x q = absurd (let z : ◌≡◌ {A = ℕ} 0 1 = cc in omega arith)

@@ -22,24 +22,24 @@ either None o = o
 either (Some x) o = Some x
 
 -- the table in the place of a name is the one told under it
-pub place_stands : (ps : Places) (n : List ℕ) → chained (place_holding ps n) (table_in ps) ≡ lookup (in_places ps) n
+pub holding_stands : (ps : Places) (n : List ℕ) → chained (place_holding ps n) (table_in ps) ≡ lookup (in_places ps) n
 unfolding first_place table_in in_places lookup
-place_stands [] n = refl
-place_stands (None ∷ ps) n = chained_mapped suc (place_holding ps n) (table_in (None ∷ ps)) ∙ place_stands ps n
-place_stands (Some t ∷ ps) n = go (bytes_eq n t.name) (place_stands ps n)
+holding_stands [] n = refl
+holding_stands (None ∷ ps) n = chained_mapped suc (place_holding ps n) (table_in (None ∷ ps)) ∙ holding_stands ps n
+holding_stands (Some t ∷ ps) n = go (bytes_eq n t.name) (holding_stands ps n)
   where
     go : (b : Bool) → chained (place_holding ps n) (table_in ps) ≡ lookup (in_places ps) n → chained (cond b (Some 0) (option_map suc (place_holding ps n))) (table_in (Some t ∷ ps)) ≡ cond b (Some t.table) (lookup (in_places ps) n)
     go true e = refl
     go false e = chained_mapped suc (place_holding ps n) (table_in (Some t ∷ ps)) ∙ e
 
 -- the name of the table in a place
-abbrev name_in : Places → ℕ → Option (List ℕ)
+abbrev pub name_in : Places → ℕ → Option (List ℕ)
 name_in ps i = chained (slice_get ps i) (option_map (λ t. t.name))
 
-pub place_name : (ps : Places) (n : List ℕ) (i : ℕ) → place_holding ps n ≡ Some i → name_in ps i ≡ Some n
+pub holding_name : (ps : Places) (n : List ℕ) (i : ℕ) → place_holding ps n ≡ Some i → name_in ps i ≡ Some n
 unfolding first_place
-place_name [] n i p = absurd (let z : ◌≡◌ {A = ℕ} 0 1 = cc in omega arith)
-place_name (None ∷ ps) n i p = under (place_holding ps n) refl i p (λ j q. place_name ps n j q)
+holding_name [] n i p = absurd (let z : ◌≡◌ {A = ℕ} 0 1 = cc in omega arith)
+holding_name (None ∷ ps) n i p = under (place_holding ps n) refl i p (λ j q. holding_name ps n j q)
   where
     under : (o : Option ℕ) → place_holding ps n ≡ o → (i : ℕ) → option_map suc o ≡ Some i → ((j : ℕ) → place_holding ps n ≡ Some j → name_in ps j ≡ Some n) → name_in (None ∷ ps) i ≡ Some n
     under None x i p ih = absurd (let z : ◌≡◌ {A = ℕ} 0 1 = cc in omega arith)
@@ -48,7 +48,7 @@ place_name (None ∷ ps) n i p = under (place_holding ps n) refl i p (λ j q. pl
         let z : suc j ≡ suc i = cc in
         let w : j ≡ i = omega arith in
         ih i (x ∙ ap Some w)
-place_name (Some t ∷ ps) n i p = under (bytes_eq n t.name) refl (place_holding ps n) refl i p (λ j q. place_name ps n j q)
+holding_name (Some t ∷ ps) n i p = under (bytes_eq n t.name) refl (place_holding ps n) refl i p (λ j q. holding_name ps n j q)
   where
     under : (b : Bool) → bytes_eq n t.name ≡ b → (o : Option ℕ) → place_holding ps n ≡ o → (i : ℕ) → cond b (Some 0) (option_map suc o) ≡ Some i → ((j : ℕ) → place_holding ps n ≡ Some j → name_in ps j ≡ Some n) → name_in (Some t ∷ ps) i ≡ Some n
     under true e o x zero p ih = ap Some (sym ((bytes_eq-Decides n t.name).0 e))
@@ -60,15 +60,15 @@ place_name (Some t ∷ ps) n i p = under (bytes_eq n t.name) refl (place_holding
         let w : j ≡ i = omega arith in
         ih i (x ∙ ap Some w)
 
-pub place_distinct : (ps : Places) (m n : List ℕ) (i : ℕ) → place_holding ps m ≡ Some i → place_holding ps n ≡ Some i → m ≡ n
-place_distinct ps m n i p q =
-    let a = place_name ps m i p in
-    let b = place_name ps n i q in
+pub holding_distinct : (ps : Places) (m n : List ℕ) (i : ℕ) → place_holding ps m ≡ Some i → place_holding ps n ≡ Some i → m ≡ n
+holding_distinct ps m n i p q =
+    let a = holding_name ps m i p in
+    let b = holding_name ps n i q in
     cc
 
-pub place_known : (ps : Places) (n : List ℕ) (i : ℕ) → place_holding ps n ≡ Some i → is_some (table_in ps i) ≡ true
+pub holding_known : (ps : Places) (n : List ℕ) (i : ℕ) → place_holding ps n ≡ Some i → is_some (table_in ps i) ≡ true
 unfolding table_in
-place_known ps n i p = go (slice_get ps i) (place_name ps n i p)
+holding_known ps n i p = go (slice_get ps i) (holding_name ps n i p)
   where
     go : (o : Option (Option Named)) → chained o (option_map (λ t. t.name)) ≡ Some n → is_some (chained o (option_map (λ t. t.table))) ≡ true
     go None e = absurd (let z : ◌≡◌ {A = ℕ} 0 1 = cc in omega arith)

@@ -11,7 +11,7 @@ use Rattle.stores.specs.Shelved.{shelf_number, shelf_stands, shelf_told}
 use Rattle.stores.specs.declared.kept.KeptTable.{KeptTable}
 use Rattle.stores.specs.declared.shelf.ShelfNumber.{ShelfNumber}
 use Rattle.stores.specs.declared.shelf.ShelfNumber.TheVariants.{Below, Place}
-use Rattle.stores.specs.Placed.{Each, each_lawful, either, lookup_new, place_distinct, place_known, place_stands}
+use Rattle.stores.specs.Placed.{Each, each_lawful, either, lookup_new, holding_distinct, holding_known, holding_stands}
 use Rattle.stores.specs.Tested.{lawful_from_test}
 
 -- each kept table is lawful by itself
@@ -43,7 +43,7 @@ which_place None None i p = absurd (let z : ◌≡◌ {A = ℕ} 0 1 = cc in omeg
 module _ {N : Type 0} (f : N → Option Table) (ps : Places) where
   -- the number of a name stands for what is told under it
   pub shelf_named : (ts : Told) (n : List ℕ) (a : Option N) → chained a f ≡ lookup ts n → ((k : N) → a ≡ Some k → is_some (f k) ≡ true) → chained (shelf_number a (place_holding ps n)) (shelf_stands f ps) ≡ lookup (shelf_told ts ps) n
-  shelf_named ts n a e h = by a (place_holding ps n) e h (place_stands ps n) ∙ sym (shelf_lookup ts ps n)
+  shelf_named ts n a e h = by a (place_holding ps n) e h (holding_stands ps n) ∙ sym (shelf_lookup ts ps n)
     where
       first : (o p : Option Table) → is_some o ≡ true → o ≡ either o p
       first None p h = absurd (both_ways false refl h)
@@ -56,9 +56,9 @@ module _ {N : Type 0} (f : N → Option Table) (ps : Places) where
 
   pub shelf_known : (n : List ℕ) (a : Option N) (k : ShelfNumber N) → ((k : N) → a ≡ Some k → is_some (f k) ≡ true) → shelf_number a (place_holding ps n) ≡ Some k → is_some (shelf_stands f ps k) ≡ true
   shelf_known n a (Below k) h p = h k (which_below a (place_holding ps n) k p)
-  shelf_known n a (Place i) h p = place_known ps n i (which_place a (place_holding ps n) i p)
+  shelf_known n a (Place i) h p = holding_known ps n i (which_place a (place_holding ps n) i p)
 
   pub shelf_distinct : (m n : List ℕ) (a b : Option N) (k : ShelfNumber N) → ((k : N) → a ≡ Some k → b ≡ Some k → m ≡ n) → shelf_number a (place_holding ps m) ≡ Some k → shelf_number b (place_holding ps n) ≡ Some k → m ≡ n
   shelf_distinct m n a b (Below k) h p q = h k (which_below a (place_holding ps m) k p) (which_below b (place_holding ps n) k q)
   shelf_distinct m n a b (Place i) h p q =
-      place_distinct ps m n i (which_place a (place_holding ps m) i p) (which_place b (place_holding ps n) i q)
+      holding_distinct ps m n i (which_place a (place_holding ps m) i p) (which_place b (place_holding ps n) i q)

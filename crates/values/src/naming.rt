@@ -4,9 +4,8 @@ ghost use Rattle.std.specs.Str.{bytes_eq};
 ghost use Rattle.values.specs.Laws.{NamesAreWords};
 ghost use Rattle.values.specs.Named.{name_bytes, name_from};
 ghost use Rattle.values.specs.Names.{among, keywords, lawful_name, name_tail, name_byte};
-ghost use Rattle.std.specs.Cmp.Rules.{comparing};
-ghost use Rattle.std.proofs.Common.{rules, arith};
-ghost use Rattle.std.specs.Cmp as Keys;
+ghost use Rattle.std.specs.Cmp.{on_equiv, on_per, partial_equiv_from_equiv};
+ghost use Rattle.std.specs.Cmp.Lexicographic.{nat_list_eq_equiv};
 
 use crate::bytes::{all_are, fill, number};
 use crate::name::Name;
@@ -94,7 +93,7 @@ fn both_same(high: u64, low: u64, other_high: u64, other_low: u64) -> bool
 impl PartialEq for Name {
     ghost eq = { λ a b. bytes_eq (name_bytes a) (name_bytes b) };
 
-    ghost laws = { Keys.partial_equiv_from_equiv (first_of (Prim.search (comparing, rules), Prim.grind (arith, Self.row.coded.inj))) };
+    ghost laws = { on_per name_bytes (partial_equiv_from_equiv nat_list_eq_equiv) };
 
     fn eq(&self, other: &Name) -> bool {
         both_same(self.high, self.low, other.high, other.low)
@@ -102,5 +101,5 @@ impl PartialEq for Name {
 }
 
 impl Eq for Name {
-    ghost laws = { first_of (Prim.search (comparing, rules), Prim.grind (arith, Self.row.coded.inj)) };
+    ghost laws = { on_equiv name_bytes nat_list_eq_equiv };
 }
