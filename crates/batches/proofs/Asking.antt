@@ -1,7 +1,7 @@
 -- What is asked of the tables that a catalog lists, by where they lie. Assumes nothing.
-use Rattle.std.proofs.Common.{◌≡◌, ℕ, zero, suc, ◌+◌, ◌*◌, ◌^◌, ◌<◌, ◌≤◌, Bool, true, false, ◌⊎◌, List, [], ◌∷◌, map, length, get_or, take, Some, None, Option, sym, refl, ap, ◌∙◌, inl, inr, mul-le-mul_right, zero-add, arith}
+use Rattle.std.proofs.Common.{◌≡◌, ℕ, ◌+◌, ◌*◌, ◌^◌, ◌<◌, ◌≤◌, Bool, true, false, ◌⊎◌, List, map, length, get_or, take, Some, None, Option, sym, refl, ap, ◌∙◌, inl, inr, mul-le-mul_right, zero-add, arith}
 use Rattle.std.proofs.lemmas.List.FromFn.{length-map-range_with_len, get_or-map-range_with_len}
-use Rattle.std.proofs.lemmas.Option.{slice_get-get_or, slice_get_past}
+use Rattle.std.proofs.lemmas.Option.{slice_get-get_or, slice_get-map, slice_get_past}
 use Rattle.std.specs.List.{slice_get, range_with_len}
 use Rattle.std.specs.Option.{option_map}
 use Rattle.std.specs.Bool.{then_some}
@@ -11,12 +11,6 @@ use Rattle.batches.specs.Layouts.{cell_at, cells_at, cells_from, heading_at, hea
 use Rattle.batches.specs.Tables.{Heading, Named}
 use Rattle.batches.specs.declared.layout.Catalog.{Catalog}
 use Rattle.batches.specs.declared.layout.Layout.{Layout}
-use Rattle.batches.proofs.Lookup.{none, few_listed, listed, listed_at}
-
-pub nth_map : {X Y : Type 0} (f : X → Y) (xs : List X) (i : ℕ) → slice_get (map f xs) i ≡ option_map f (slice_get xs i)
-nth_map f [] i = refl
-nth_map f (x ∷ xs) zero = refl
-nth_map f (x ∷ xs) (suc i) = nth_map f xs i
 
 -- a list made from a function of the index
 module _ {X : Type 0} (f : ℕ → X) (n i : ℕ) where
@@ -29,17 +23,9 @@ module _ {X : Type 0} (f : ℕ → X) (n i : ℕ) where
   nth_counted_past h = let l = length-map-range_with_len f 0 n in slice_get_past (map f (range_with_len 0 n)) i (omega arith)
 
 module _ (c : Catalog) (t : ℕ) where
-  pub layout_here : length c.tables ≡ 8 → t < c.count → Some (get_or c.tables t none) ≡ layout_of c t
-  layout_here e h =
-      let l = listed c e in
-      sym (slice_get-get_or (take c.count c.tables) t none (omega arith) ∙ ap Some (listed_at c t h))
-
-  pub layout_past : c.count ≤ t → None ≡ layout_of c t
-  layout_past h = let l = few_listed c in sym (slice_get_past (take c.count c.tables) t (omega arith))
-
   -- the table that lies where the catalog says
   pub told_at : (bs : List ℕ) (o : Option Layout) → o ≡ layout_of c t → slice_get (told_by bs c) t ≡ option_map (table_at bs) o
-  told_at bs o e = nth_map (table_at bs) (take c.count c.tables) t ∙ ap (option_map (table_at bs)) (sym e)
+  told_at bs o e = slice_get-map (table_at bs) (take c.count c.tables) t ∙ ap (option_map (table_at bs)) (sym e)
 
 -- what is asked of the table that lies at o, or of none
 module _ (bs : List ℕ) (c : Catalog) (t : ℕ) (o : Option Layout) (e : o ≡ layout_of c t) where

@@ -1,6 +1,7 @@
 -- What commands' bytes and operands tell: the cell commands, column types, names, and the heading that a cell stands under.
 use Rattle.std.proofs.Common.{◌≡◌, ℕ, zero, suc, ◌<◌, Bool, true, false, cond, not, ◌&&◌, eqb, ◌⊎◌, List, [], ◌∷◌, ◌++◌, length, Some, None, Option, sym, refl, ap, subst, inl, inr, arith}
 use Rattle.std.proofs.lemmas.Bool.{eqb-true, and_parts, cases_Bool, or_parts, or_from, both_ways}
+use Rattle.std.proofs.lemmas.Bool.Decides.{not_from_Decides}
 use Rattle.std.proofs.lemmas.Slice.Eq.{bytes_eq-Decides}
 use Rattle.std.specs.Str.{bytes_eq}
 use Rattle.values.specs.Cells.{Cell, null}
@@ -181,9 +182,6 @@ cell_may_is (h ∷ hs) (suc k) b e = let r = cell_may_is hs k b e in (r.0, omega
 pub same_not : (n m : List ℕ) → (n ≡ m → ⊥) → bytes_eq n m ≡ false
 same_not n m ne = elim (cases_Bool (bytes_eq n m)) [ inl e ↦ absurd (ne ((bytes_eq-Decides n m).0 e)) | inr e ↦ e ]
 
-not_same : (n m : List ℕ) → bytes_eq n m ≡ false → n ≡ m → ⊥
-not_same n m e q = both_ways (bytes_eq n m) e ((bytes_eq-Decides n m).1 q)
-
 apart_middle : (n : List ℕ) (ds : Told) (t : Named) (us : Told) → Apart n (ds ++ t ∷ us) → n ≡ t.name → ⊥
 apart_middle n [] t us a = a.0
 apart_middle n (d ∷ ds) t us a = apart_middle n ds t us a.1
@@ -203,4 +201,4 @@ pub distinct_push : (ds : Told) (t : Named) → Distinct ds → taken t.name ds 
 distinct_push [] t d f = (tt, tt)
 distinct_push (x ∷ ds) t d f =
     let p = or_parts (bytes_eq t.name x.name) (taken t.name ds) f in
-    (apart_push x.name ds t d.0 (λ e. not_same t.name x.name p.0 (sym e)), distinct_push ds t d.1 p.1)
+    (apart_push x.name ds t d.0 (λ e. not_from_Decides (bytes_eq t.name x.name) (bytes_eq-Decides t.name x.name) p.0 (sym e)), distinct_push ds t d.1 p.1)

@@ -7,7 +7,6 @@ use Rattle.std.specs.List.{slice_get, flat_map, AllByRecursion}
 use Rattle.std.specs.Option.{option_map}
 use Rattle.std.specs.Bool.{then_some}
 use Rattle.values.proofs.Codec.{decoded_lawful}
-use Rattle.values.proofs.Operands.{decoded_none}
 use Rattle.values.specs.Cells.{Cell}
 use Rattle.values.specs.Codes.{decoded}
 use Rattle.values.specs.Names.{lawful_name}
@@ -19,6 +18,7 @@ use Rattle.batches.specs.Tables.{Heading, Named, Told, LawfulHeadings, RowFits}
 use Rattle.batches.specs.Theorems.{TablesDescribed}
 use Rattle.batches.specs.Written.{BodyFits}
 use Rattle.batches.proofs.Exactly.{reads_exactly}
+use Rattle.batches.proofs.Pieces.{no_cell_of}
 
 -- what holds of each element of two lists joined holds of each of theirs
 all_parts : {X : Type 0} (P : X → Type 0) (xs ys : List X) → AllByRecursion P (xs ++ ys) → AllByRecursion P xs × AllByRecursion P ys
@@ -31,7 +31,7 @@ Bytes = AllByRecursion (λ b. b < 256)
 -- only seventeen bytes stand for a cell
 cell_length : (bs : List ℕ) (c : Cell) → decoded bs ≡ Some c → length bs ≡ 17
 cell_length bs c e =
-    elim (cases_eq (length bs) 17) [ inl h ↦ h | inr h ↦ absurd (let k = decoded_none bs h in let z : ◌≡◌ {A = ℕ} 0 1 = cc in omega arith) ]
+    elim (cases_eq (length bs) 17) [ inl h ↦ h | inr h ↦ absurd (let k = no_cell_of bs h in let z : ◌≡◌ {A = ℕ} 0 1 = cc in omega arith) ]
 
 row_fits : {hs : List Heading} {bs : List ℕ} {cs : List Cell} → IsRow hs bs cs → Bytes bs → RowFits hs cs
 row_fits IsRow.ended b = tt

@@ -5,90 +5,74 @@ use Rattle.std.proofs.ByRecursion.{All-push}
 use Rattle.std.proofs.lemmas.List.{take_more_set}
 use Rattle.std.proofs.lemmas.Bool.{eq-eqb, ne_eqb, lt-ltb}
 use Rattle.std.specs.List.{AllByRecursion}
-use Rattle.batches.specs.Checking.{InTable, Placed, PlacedAt, row_from, step_at}
+use Rattle.std.proofs.Math.Bool.{or-false}
+use Rattle.batches.specs.Checking.{InTable, Placed, row_from, step_at}
 use Rattle.batches.specs.Layouts.{Lies, cells_from, headings_at, cells_at, rows_at, slice_at, table_at, told_by}
 use Rattle.batches.specs.Reading.{State, goes, stops, may_stand, ending, between}
-use Rattle.batches.specs.declared.checker.Checker.{Checker}
-use Rattle.batches.specs.declared.checker.Stage.{Stage as Expects}
-use Rattle.batches.specs.declared.checker.Stage.TheVariants.{Between, Columns, Cells}
+use Rattle.batches.specs.declared.checker.Begun.{Begun}
+use Rattle.batches.specs.declared.checker.Progress.{Progress}
+use Rattle.batches.specs.declared.checker.Stage.TheVariants.{Columns, Cells}
 use Rattle.batches.specs.declared.layout.Layout.{Layout}
-use Rattle.batches.proofs.Stages.{state_at, step_is, length_headings, length_cells, no_cell_end, or_none}
+use Rattle.batches.proofs.Stages.{placed_in, state_at, step_is, length_headings, length_cells, no_cell_end}
 use Rattle.batches.proofs.StepBy.{byte_refused, taken_on}
 
 -- an end may stand where there are columns and no row is begun
-columns_end : (bs : List ℕ) (c : Checker) (t : Bool) → ltb 0 c.columns ≡ t → may_stand (state_at bs c Columns) 0x7F ≡ t
-columns_end bs c t h =
-    ap₂ (λ (x y : Bool). x || y) (ap (ltb 0) (length_headings bs (c.at + 17) c.columns) ∙ h) (no_cell_end (headings_at bs (c.at + 17) c.columns) 0) ∙ or_none t
+columns_end : (bs : List ℕ) (c : Progress) (t : Begun) (b : Bool) → ltb 0 t.columns ≡ b → may_stand (state_at bs c (Columns t)) 0x7F ≡ b
+columns_end bs c t b h =
+    ap₂ (λ (x y : Bool). x || y) (ap (ltb 0) (length_headings bs (t.at + 17) t.columns) ∙ h) (no_cell_end (headings_at bs (t.at + 17) t.columns) 0) ∙ or-false b
 
-cells_end : (bs : List ℕ) (c : Checker) (t : Bool) → eqb c.cells 0 ≡ t → may_stand (state_at bs c Cells) 0x7F ≡ t
-cells_end bs c t h =
-    ap₂ (λ (x y : Bool). x || y) (ap (λ (n : ℕ). eqb n 0) (length_cells bs (row_from c) c.cells) ∙ h) (no_cell_end (headings_at bs (c.at + 17) c.columns) (length (cells_at bs (row_from c) c.cells))) ∙ or_none t
-
-pub end_refused : (bs : List ℕ) (c : Checker) → Placed bs c → InTable c.stage → get_or bs c.pos 0 ≡ 0x7F → (c.columns ≡ 0) ⊎ (c.cells ≡ 0 → ⊥) → step_at bs c ≡ stops c.pos
-end_refused bs c p t b r = go c.stage refl p.stands t r
-  where
-    go : (e : Expects) → c.stage ≡ e → PlacedAt bs c e → InTable e → (c.columns ≡ 0) ⊎ (c.cells ≡ 0 → ⊥) → step_at bs c ≡ stops c.pos
-    go Between q s u v = absurd u
-    go Columns q s u (inl z) =
-        step_is bs c Columns 0x7F q b ∙ byte_refused (state_at bs c Columns) c.pos 0x7F (drop (c.pos + 1) bs) (columns_end bs c false (ap (ltb 0) z))
-    go Columns q s u (inr n) = absurd (n s.3)
-    go Cells q s u (inl z) = absurd (omega arith)
-    go Cells q s u (inr n) =
-        step_is bs c Cells 0x7F q b ∙ byte_refused (state_at bs c Cells) c.pos 0x7F (drop (c.pos + 1) bs) (cells_end bs c false (ne_eqb c.cells 0 n))
+cells_end : (bs : List ℕ) (c : Progress) (t : Begun) (b : Bool) → eqb t.cells 0 ≡ b → may_stand (state_at bs c (Cells t)) 0x7F ≡ b
+cells_end bs c t b h =
+    ap₂ (λ (x y : Bool). x || y) (ap (λ (n : ℕ). eqb n 0) (length_cells bs (row_from t) t.cells) ∙ h) (no_cell_end (headings_at bs (t.at + 17) t.columns) (length (cells_at bs (row_from t) t.cells))) ∙ or-false b
 
 -- the layout of the table that ends
-abbrev pub closing : Checker → Layout
-closing c = record { at = c.at; width = c.columns; rows = c.rows }
+abbrev pub closing : Begun → Layout
+closing t = record { at = t.at; width = t.columns; rows = t.rows }
 
-pub end_taken : (bs : List ℕ) (c : Checker) → Placed bs c → InTable c.stage → get_or bs c.pos 0 ≡ 0x7F → (c.columns ≡ 0 → ⊥) → c.cells ≡ 0 → step_at bs c ≡ goes (record { done = told_by bs c.catalog ++ table_at bs (closing c) ∷ []; stage = between }) 0
-unfolding rows_at
-end_taken bs c p t b n z = go c.stage refl p.stands t
-  where
-    named : ℕ → State
-    named m =
-        ending (told_by bs c.catalog) (slice_at bs (c.at + 1) 16) (headings_at bs (c.at + 17) c.columns) (rows_at bs (cells_from c.at c.columns) c.columns m)
+module _ (bs : List ℕ) (c : Progress) (t : Begun) (p : Placed bs c) where
+  pub end_refused : InTable t c.stage → get_or bs c.pos 0 ≡ 0x7F → (t.columns ≡ 0) ⊎ (t.cells ≡ 0 → ⊥) → step_at bs c ≡ stops c.pos
+  end_refused (inl q) b (inl z) =
+      step_is bs c (Columns t) 0x7F q b ∙ byte_refused (state_at bs c (Columns t)) c.pos 0x7F (drop (c.pos + 1) bs) (columns_end bs c t false (ap (ltb 0) z))
+  end_refused (inl q) b (inr n) = absurd (n (placed_in bs c (Columns t) q p).3)
+  end_refused (inr q) b (inl z) = let s = placed_in bs c (Cells t) q p in absurd (omega arith)
+  end_refused (inr q) b (inr n) =
+      step_is bs c (Cells t) 0x7F q b ∙ byte_refused (state_at bs c (Cells t)) c.pos 0x7F (drop (c.pos + 1) bs) (cells_end bs c t false (ne_eqb t.cells 0 n))
 
-    go : (e : Expects) → c.stage ≡ e → PlacedAt bs c e → InTable e → step_at bs c ≡ goes (named c.rows) 0
-    go Between q s u = absurd u
-    go Columns q s u =
-        step_is bs c Columns 0x7F q b ∙
-        (taken_on (state_at bs c Columns) c.pos 0x7F (drop (c.pos + 1) bs) (named 0) (columns_end bs c true (lt-ltb 0 c.columns (omega arith))) (omega arith) refl ∙
-        ap (λ (m : ℕ). goes (named m) 0) (sym s.2))
-    go Cells q s u =
-        step_is bs c Cells 0x7F q b ∙
-        taken_on (state_at bs c Cells) c.pos 0x7F (drop (c.pos + 1) bs) (named c.rows) (cells_end bs c true (eq-eqb c.cells 0 z)) (omega arith) refl
+  named : ℕ → State
+  named m =
+      ending (told_by bs c.catalog) (slice_at bs (t.at + 1) 16) (headings_at bs (t.at + 17) t.columns) (rows_at bs (cells_from t.at t.columns) t.columns m)
 
--- the rows of a table in progress are few
-pub rows_few : (bs : List ℕ) (c : Checker) → Placed bs c → InTable c.stage → (c.columns ≡ 0 → ⊥) → c.rows ≤ length bs
-rows_few bs c p t n = go c.stage p.stands t
-  where
-    go : (e : Expects) → PlacedAt bs c e → InTable e → c.rows ≤ length bs
-    go Between s u = absurd u
-    go Columns s u = omega arith
-    go Cells s u =
-        let w = p.within in
-        let m : 1 * c.rows ≤ c.columns * c.rows = mul-le 1 c.rows c.columns c.rows (omega arith) (omega arith) in
-        omega arith
+  pub end_taken : InTable t c.stage → get_or bs c.pos 0 ≡ 0x7F → (t.columns ≡ 0 → ⊥) → t.cells ≡ 0 → step_at bs c ≡ goes (record { done = told_by bs c.catalog ++ table_at bs (closing t) ∷ []; stage = between }) 0
+  unfolding rows_at named
+  end_taken (inl q) b n z =
+      step_is bs c (Columns t) 0x7F q b ∙
+      (taken_on (state_at bs c (Columns t)) c.pos 0x7F (drop (c.pos + 1) bs) (named 0) (columns_end bs c t true (lt-ltb 0 t.columns (omega arith))) (omega arith) refl ∙
+      ap (λ (m : ℕ). goes (named m) 0) (sym (placed_in bs c (Columns t) q p).2))
+  end_taken (inr q) b n z =
+      step_is bs c (Cells t) 0x7F q b ∙
+      taken_on (state_at bs c (Cells t)) c.pos 0x7F (drop (c.pos + 1) bs) (named t.rows) (cells_end bs c t true (eq-eqb t.cells 0 z)) (omega arith) refl
 
--- and it lies within the bytes
-pub closing_lies : (bs : List ℕ) (c : Checker) → Placed bs c → InTable c.stage → c.pos < length bs → c.cells ≡ 0 → Lies bs (closing c)
-closing_lies bs c p t l z = go c.stage p.stands t
-  where
-    go : (e : Expects) → PlacedAt bs c e → InTable e → Lies bs (closing c)
-    go Between s u = absurd u
-    go Columns s u =
-        let m : c.columns * c.rows ≡ 0 = ap (λ (k : ℕ). c.columns * k) s.2 ∙ mul-zero c.columns in
-        record { lies = omega arith }
-    go Cells s u = record { lies = omega arith }
+  -- the rows of a table in progress are few
+  pub rows_few : InTable t c.stage → (t.columns ≡ 0 → ⊥) → t.rows ≤ length bs
+  rows_few (inl q) n = let s = placed_in bs c (Columns t) q p in omega arith
+  rows_few (inr q) n =
+      let s = placed_in bs c (Cells t) q p in
+      let w = p.within in
+      let m : 1 * t.rows ≤ t.columns * t.rows = mul-le 1 t.rows t.columns t.rows (omega arith) (omega arith) in
+      omega arith
+
+  -- and it lies within the bytes
+  pub closing_lies : InTable t c.stage → c.pos < length bs → t.cells ≡ 0 → Lies bs (closing t)
+  closing_lies (inl q) l z =
+      let s = placed_in bs c (Columns t) q p in
+      let m : t.columns * t.rows ≡ 0 = ap (λ (k : ℕ). t.columns * k) s.2 ∙ mul-zero t.columns in
+      record { lies = omega arith }
+  closing_lies (inr q) l z = let s = placed_in bs c (Cells t) q p in record { lies = omega arith }
+
+  -- a table in progress leaves room in the catalog
+  pub room_left : InTable t c.stage → c.catalog.count < 8
+  room_left (inl q) = (placed_in bs c (Columns t) q p).4
+  room_left (inr q) = (placed_in bs c (Cells t) q p).3
 
 pub inside_more : (bs : List ℕ) (ls : List Layout) (n : ℕ) (l : Layout) → n < length ls → AllByRecursion (Lies bs) (take n ls) → Lies bs l → AllByRecursion (Lies bs) (take (n + 1) (set ls n l))
 inside_more bs ls n l h p q = subst (AllByRecursion (Lies bs)) (sym (take_more_set ls n l h)) (All-push (Lies bs) (take n ls) l p q)
-
--- a table in progress leaves room in the catalog
-pub room_left : (bs : List ℕ) (c : Checker) → Placed bs c → InTable c.stage → c.catalog.count < 8
-room_left bs c p t = go c.stage p.stands t
-  where
-    go : (e : Expects) → PlacedAt bs c e → InTable e → c.catalog.count < 8
-    go Between s u = absurd u
-    go Columns s u = s.4
-    go Cells s u = s.3

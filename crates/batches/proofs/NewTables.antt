@@ -3,16 +3,13 @@ use Rattle.std.proofs.Common.{◌≡◌, ℕ, suc, ◌+◌, ◌-◌, ◌<◌, �
 use Rattle.std.proofs.lemmas.List.{length-drop, length-map}
 use Rattle.std.proofs.lemmas.Bool.{and_from, and_left, and_right, cond-false, cond-true, le-ltb, lt-ltb}
 use Rattle.std.specs.Option.{option_map}
-use Rattle.std.specs.Bool.{then_some}
 use Rattle.std.specs.Str.{bytes_eq}
-use Rattle.values.specs.Named.{name_bytes}
 use Rattle.values.specs.Names.{lawful_name}
-use Rattle.values.specs.declared.name.Name.{Name}
 use Rattle.batches.specs.Checking.{Placed, state_of, step_at}
 use Rattle.batches.specs.Layouts.{headings_at, place_of, slice_at, table_at, told_by}
 use Rattle.batches.specs.Reading.{goes, stops, step, may_stand, taken}
 use Rattle.batches.specs.Tables.{Told}
-use Rattle.batches.specs.declared.checker.Checker.{Checker}
+use Rattle.batches.specs.declared.checker.Progress.{Progress}
 use Rattle.batches.specs.declared.checker.Stage.TheVariants.{Between, Columns}
 use Rattle.batches.proofs.Lookup.{listed}
 use Rattle.batches.proofs.Stages.{state_at, step_is, bytes_left}
@@ -32,21 +29,16 @@ taken_found n (t ∷ ts) = go (bytes_eq n t.name) (taken_found n ts)
     go true e = refl
     go false e = e ∙ sym (some_mapped (place_of n ts))
 
--- the name that was read, of the bytes that it was read from
-pub name_read : (n : Name) (t : Bool) (bs : List ℕ) → Some (name_bytes n) ≡ then_some t bs → (t ≡ true) × (name_bytes n ≡ bs)
-name_read n true bs e = (refl, cc)
-name_read n false bs e = absurd (let z : ◌≡◌ {A = ℕ} 0 1 = cc in omega arith)
-
-pub no_name_read : (t : Bool) (bs : List ℕ) → None ≡ then_some t bs → t ≡ false
-no_name_read true bs e = absurd (let z : ◌≡◌ {A = ℕ} 0 1 = cc in omega arith)
-no_name_read false bs e = refl
-
--- the checker after a table's command
-abbrev pub with_table : Checker → Checker
+-- the progress after a table's command
+abbrev pub with_table : Progress → Progress
 with_table c =
-    record { stage = Columns; pos = c.pos + 17; at = c.pos; columns = 0; rows = 0; cells = 0; catalog = c.catalog }
+    record {
+      stage = Columns (record { at = c.pos; columns = 0; rows = 0; cells = 0 });
+      pos = c.pos + 17;
+      catalog = c.catalog;
+    }
 
-module _ (bs : List ℕ) (c : Checker) (q : c.stage ≡ Between) (b : get_or bs c.pos 0 ≡ 0x01) (l : c.pos < length bs) (g : length c.catalog.tables ≡ 8) where
+module _ (bs : List ℕ) (c : Progress) (q : c.stage ≡ Between) (b : get_or bs c.pos 0 ≡ 0x01) (l : c.pos < length bs) (g : length c.catalog.tables ≡ 8) where
   may_table : (t : Bool) → ltb c.catalog.count 8 ≡ t → may_stand (state_at bs c Between) 0x01 ≡ t
   may_table t h =
       ap (λ (n : ℕ). ltb n 8) (length-map (take c.catalog.count c.catalog.tables) (table_at bs) ∙ listed c.catalog g) ∙ h

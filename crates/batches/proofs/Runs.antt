@@ -4,7 +4,7 @@ use Rattle.std.proofs.lemmas.List.{drop_all, drop-drop, drop_more, length-drop}
 use Rattle.std.proofs.lemmas.Bool.{cond-false, cond-true, le-ltb, lt-ltb}
 use Rattle.batches.specs.Checking.{state_of, step_at}
 use Rattle.batches.specs.Reading.{Reading, refused, State, Step, goes, stops, step, run, close, reading, start, longest}
-use Rattle.batches.specs.declared.checker.Checker.{Checker}
+use Rattle.batches.specs.declared.checker.Progress.{Progress}
 
 -- what follows a step
 abbrev onward : ℕ → ℕ → List ℕ → Step → Reading
@@ -45,17 +45,17 @@ run_stop zero s at b bs p h e = absurd (omega arith)
 run_stop (suc n) s at b bs p h e = by_step n s at b bs ∙ ap (onward n at bs) e
 
 -- what is still to be read gives what the whole batch gives
-abbrev pub Going : List ℕ → Checker → Type 0
+abbrev pub Going : List ℕ → Progress → Type 0
 Going bs c = run (length bs) (state_of bs c) c.pos (drop c.pos bs) ≡ run (length bs) start 0 bs
 
-module _ (bs : List ℕ) (c : Checker) (l : c.pos < length bs) (g : Going bs c) where
+module _ (bs : List ℕ) (c : Progress) (l : c.pos < length bs) (g : Going bs c) where
   here : run (length bs) (state_of bs c) c.pos (get_or bs c.pos 0 ∷ drop (c.pos + 1) bs) ≡ run (length bs) start 0 bs
   here = ap (run (length bs) (state_of bs c) c.pos) (sym (drop_more bs c.pos 0 l)) ∙ g
 
   few : length (drop (c.pos + 1) bs) < length bs
   few = simp length-drop (omega arith)
 
-  pub going_on : (d : Checker) (w : ℕ) → step_at bs c ≡ goes (state_of bs d) w → d.pos ≡ c.pos + 1 + w → Going bs d
+  pub going_on : (d : Progress) (w : ℕ) → step_at bs c ≡ goes (state_of bs d) w → d.pos ≡ c.pos + 1 + w → Going bs d
   going_on d w e q =
       ap (λ (n : ℕ). run (length bs) (state_of bs d) n (drop n bs)) q ∙
       (ap (run (length bs) (state_of bs d) (c.pos + 1 + w)) (sym (drop-drop w (c.pos + 1) bs)) ∙
@@ -64,7 +64,7 @@ module _ (bs : List ℕ) (c : Checker) (l : c.pos < length bs) (g : Going bs c) 
   pub stopped : (p : ℕ) → step_at bs c ≡ stops p → refused p ≡ run (length bs) start 0 bs
   stopped p e = sym (run_stop (length bs) (state_of bs c) c.pos (get_or bs c.pos 0) (drop (c.pos + 1) bs) p few e) ∙ here
 
-pub closed : (bs : List ℕ) (c : Checker) → length bs ≤ c.pos → Going bs c → close (state_of bs c) c.pos ≡ run (length bs) start 0 bs
+pub closed : (bs : List ℕ) (c : Progress) → length bs ≤ c.pos → Going bs c → close (state_of bs c) c.pos ≡ run (length bs) start 0 bs
 closed bs c h g =
     sym (run_end (length bs) (state_of bs c) c.pos) ∙ (ap (run (length bs) (state_of bs c) c.pos) (sym (drop_all c.pos bs h)) ∙ g)
 

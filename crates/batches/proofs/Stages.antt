@@ -1,27 +1,30 @@
 -- The state of the reading that the checker's fields stand for, stage by stage. Assumes nothing.
-use Rattle.std.proofs.Common.{◌≡◌, ℕ, zero, suc, ◌+◌, ◌*◌, ◌<◌, Bool, true, false, ◌||◌, List, [], ◌∷◌, ◌++◌, map, length, get_or, take, drop, set, refl, ap, ◌∙◌, ap₂, zero-add, arith}
+use Rattle.std.proofs.Common.{◌≡◌, ℕ, zero, suc, ◌+◌, ◌*◌, ◌<◌, false, List, [], ◌∷◌, ◌++◌, map, length, get_or, take, drop, set, refl, ap, ◌∙◌, subst, ap₂, zero-add, arith}
 use Rattle.std.proofs.lemmas.List.FromFn.{length-map-range_with_len, map-range_with_len_more}
-use Rattle.std.proofs.lemmas.List.{length-drop, take_more_set, map_push}
+use Rattle.std.proofs.lemmas.List.{get_or_past, length-drop, take_more_set, map_push}
 use Rattle.values.specs.Codes.{byte_fits}
 use Rattle.values.specs.declared.kinds.ColumnType.{ColumnType}
 use Rattle.values.specs.declared.kinds.ColumnType.TheVariants.{Integer, Real, Text}
-use Rattle.batches.specs.Checking.{stage_by, state_of, step_at}
+use Rattle.batches.specs.Checking.{Placed, PlacedAt, stage_by, state_of, step_at}
 use Rattle.batches.specs.Layouts.{heading_at, headings_at, cell_at, cells_at, rows_at, table_at, told_by}
 use Rattle.batches.specs.Reading.{State, step, cell_may}
 use Rattle.batches.specs.Tables.{Heading}
-use Rattle.batches.specs.declared.checker.Checker.{Checker}
+use Rattle.batches.specs.declared.checker.Progress.{Progress}
 use Rattle.batches.specs.declared.checker.Stage.{Stage as Expects}
 use Rattle.batches.specs.declared.layout.Layout.{Layout}
 
-abbrev pub state_at : List ℕ → Checker → Expects → State
-state_at bs c e = record { done = told_by bs c.catalog; stage = stage_by bs c e }
+abbrev pub state_at : List ℕ → Progress → Expects → State
+state_at bs c e = record { done = told_by bs c.catalog; stage = stage_by bs e }
 
-pub state_is : (bs : List ℕ) (c : Checker) (e : Expects) → c.stage ≡ e → state_of bs c ≡ state_at bs c e
+pub state_is : (bs : List ℕ) (c : Progress) (e : Expects) → c.stage ≡ e → state_of bs c ≡ state_at bs c e
 unfolding state_of
 state_is bs c e q = ap (state_at bs c) q
 
+pub placed_in : (bs : List ℕ) (c : Progress) (e : Expects) → c.stage ≡ e → Placed bs c → PlacedAt c e
+placed_in bs c e q p = subst (PlacedAt c) q p.stands
+
 -- the step at the position, where the stage and the byte there are known
-pub step_is : (bs : List ℕ) (c : Checker) (e : Expects) (b : ℕ) → c.stage ≡ e → get_or bs c.pos 0 ≡ b → step_at bs c ≡ step (state_at bs c e) c.pos b (drop (c.pos + 1) bs)
+pub step_is : (bs : List ℕ) (c : Progress) (e : Expects) (b : ℕ) → c.stage ≡ e → get_or bs c.pos 0 ≡ b → step_at bs c ≡ step (state_at bs c e) c.pos b (drop (c.pos + 1) bs)
 step_is bs c e b q r =
     ap₂ (λ (s : State) (a : ℕ). step s c.pos a (drop (c.pos + 1) bs)) (state_is bs c e q) r
 
@@ -77,7 +80,6 @@ no_cell_column = no_cell 0x02 byte_column
 pub bytes_left : (bs : List ℕ) (pos : ℕ) → pos < length bs → pos + 1 + length (drop (pos + 1) bs) ≡ length bs
 bytes_left bs pos h = simp length-drop (omega arith)
 
--- or-ing with false
-pub or_none : (t : Bool) → (t || false) ≡ t
-or_none true = refl
-or_none false = refl
+-- where a byte other than zero is read, the bytes go on
+pub byte_within : (bs : List ℕ) (pos : ℕ) {b : ℕ} → get_or bs pos 0 ≡ b → 0 < b → pos < length bs
+byte_within bs pos e h = grind (arith, get_or_past bs pos 0)

@@ -2,7 +2,7 @@
 use Rattle.std.proofs.Common.{◌≡◌, ℕ, ◌<◌, ◌≤◌, true, false, not, ◌&&◌, ◌||◌, eqb, ltb, List, [], ◌∷◌, ◌++◌, length, get_or, take, Some, None, Option, sym, refl, ap, ◌∙◌, subst, inl, inr, arith, lit≤}
 use Rattle.std.specs.List.{AllByRecursion}
 use Rattle.std.proofs.ByRecursion.{All-push}
-use Rattle.std.proofs.lemmas.List.{length_push, length-append, length-take-le, take_more, take_all}
+use Rattle.std.proofs.lemmas.List.{length_push, length-append, length-take-le, take_more, take_all, nil_from_length}
 use Rattle.std.proofs.lemmas.Bool.{eqb-true, eqb-false, ltb-true, or_cases, and_parts, cases_Bool, not-true}
 use Rattle.values.specs.Cells.{Cell}
 use Rattle.values.specs.Codes.{decoded, fits, byte_fits, type_byte, type_of}
@@ -54,15 +54,11 @@ cell_command_lem ts g n hs rs cs b os u f may (Some c) d e =
     let s : at ts (with_cell n hs rs (cs ++ c ∷ [])) ≡ u = cc in
     subst (λ x. Command ts g b os x) s (filled c f p d fit)
 
-no_bytes : (os : List ℕ) → length os ≡ 0 → os ≡ []
-no_bytes [] e = refl
-no_bytes (o ∷ os) e = absurd (omega arith)
-
 end_command_lem : (ts : Told) (g : Stage) (n : List ℕ) (hs : List Heading) (rs : List (List Cell)) (b : ℕ) (os : List ℕ) (u : State) → Fills g n hs rs [] → 1 ≤ length hs → b ≡ 0x7F → length os ≡ operand_length b → Some (ending ts n hs rs) ≡ Some u → Command ts g b os u
 end_command_lem ts g n hs rs b os u f some e long a =
     let s : ending ts n hs rs ≡ u = cc in
     let l : length os ≡ 0 = rw e at long in
-    rw (e, no_bytes os l) (subst (λ x. Command ts g 0x7F [] x) s (ended f some))
+    rw (e, nil_from_length os l) (subst (λ x. Command ts g 0x7F [] x) s (ended f some))
 
 name_command : (ts : Told) (os : List ℕ) (u : State) → length ts < 8 → after_table ts os ≡ Some u → Command ts between 0x01 os u
 name_command ts os u room a = elim (cases_Bool (lawful_name os && not (taken os ts))) [

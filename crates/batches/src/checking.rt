@@ -1,175 +1,28 @@
-ghost use Rattle.std.specs.Prelude.{◌≡◌, ℕ, ◌+◌, ◌<◌, ◌≤◌, List, length, slice_index};
+ghost use Rattle.std.specs.Prelude.{◌≡◌, ℕ, ◌<◌, List, length, slice_index};
 ghost use Rattle.batches.specs.declared.checker.Stage.TheVariants.{Between, Columns};
 ghost use Rattle.batches.specs.Checking.{CellByte, InTable, Placed, Stepped, reading_by, state_of};
 ghost use Rattle.batches.specs.Reading.{close, reading, start};
 ghost use Rattle.batches.specs.Theorems.{OneReading, ReadsExactly, RefusedThere, TablesDescribed};
 
-use crate::checker::{Checker, Stage};
+use crate::checker::{Begun, Checker, Progress, Stage};
+use crate::command_bytes::{
+    CELL_WIDTH, COLUMN, COLUMN_WIDTH, END, NULL, TABLE, TABLE_WIDTH, TEXT, TYPE_OFFSET,
+};
 use crate::layout::{BatchFault, Catalog, Layout};
-use crate::reads::{name_at, type_at};
+use crate::reads::{name_at, type_at, value_at};
 use values::kinds::ColumnType;
-use values::value::Value;
 
 // The most bytes that a batch may have.
 pub const LONGEST: usize = 16_777_216;
 
-const TABLE: u8 = 0x01;
-
-const COLUMN: u8 = 0x02;
-
-const NULL: u8 = 0x10;
-
-const TEXT: u8 = 0x13;
-
-const END: u8 = 0x7f;
-
-impl Checker {
-    fn new() -> Checker
+impl Progress {
+    fn start() -> Progress
         ensures { (bs : List ℕ) → Placed bs result × (state_of bs result ≡ start) × (result.pos ≡ 0) }
     {
-        let none = Layout {
-            at: 0,
-            width: 0,
-            rows: 0,
-        };
-        Checker {
+        Progress {
             stage: Stage::Between,
             pos: 0,
-            at: 0,
-            columns: 0,
-            rows: 0,
-            cells: 0,
             catalog: Catalog::empty(),
-        }
-    }
-
-    // An end of the table in progress: there are columns, and no row is begun.
-    fn take_end(&mut self, bytes: &[u8]) -> Result<(), BatchFault>
-        requires placed { Placed bytes.now self.old }
-        requires within { self.old.pos < length bytes.now }
-        requires short { length bytes.now ≤ 16777216 }
-        requires table { InTable self.old.stage }
-        requires byte { slice_index bytes.now self.old.pos ≡ 127 }
-        ensures { Stepped bytes.now self.old self.new result }
-    {
-        if self.columns == 0 || self.cells != 0 {
-            return Err(BatchFault { place: self.pos });
-        }
-        let count = self.catalog.count;
-        self.catalog.tables[count] = Layout {
-            at: self.at as u32,
-            width: self.columns as u8,
-            rows: self.rows as u32,
-        };
-        self.catalog.count = count + 1;
-        self.stage = Stage::Between;
-        self.pos += 1;
-        Ok(())
-    }
-
-    // One column more: a lawful name and a type.
-    fn take_column(&mut self, bytes: &[u8]) -> Result<(), BatchFault>
-        requires placed { Placed bytes.now self.old }
-        requires within { self.old.pos < length bytes.now }
-        requires short { length bytes.now ≤ 16777216 }
-        requires stage { self.old.stage ≡ Columns }
-        requires byte { slice_index bytes.now self.old.pos ≡ 2 }
-        ensures { Stepped bytes.now self.old self.new result }
-    {
-        let at = self.pos;
-        if self.columns >= 8 {
-            return Err(BatchFault { place: at });
-        }
-        if bytes.len() - at < 18 {
-            return Err(BatchFault { place: bytes.len() });
-        }
-        let named = name_at(bytes, at + 1).is_some();
-        if !named || ColumnType::from_byte(bytes[at + 17]).is_none() {
-            return Err(BatchFault { place: at });
-        }
-        self.columns += 1;
-        self.pos = at + 18;
-        Ok(())
-    }
-
-    // One cell more, null or of its column's type, which may fill its row.
-    fn take_cell(&mut self, bytes: &[u8]) -> Result<(), BatchFault>
-        requires placed { Placed bytes.now self.old }
-        requires within { self.old.pos < length bytes.now }
-        requires short { length bytes.now ≤ 16777216 }
-        requires table { InTable self.old.stage }
-        requires byte { CellByte (slice_index bytes.now self.old.pos) }
-        ensures { Stepped bytes.now self.old self.new result }
-    {
-        let at = self.pos;
-        if self.cells >= self.columns {
-            return Err(BatchFault { place: at });
-        }
-        let column = type_at(bytes[self.at + 18 * self.cells + 34]);
-        if !column.accepts_command(bytes[at]) {
-            return Err(BatchFault { place: at });
-        }
-        if bytes.len() - at < 17 {
-            return Err(BatchFault { place: bytes.len() });
-        }
-        if Value::read(&bytes[at..at + 17]).is_none() {
-            return Err(BatchFault { place: at });
-        }
-        self.stage = Stage::Cells;
-        self.pos = at + 17;
-        if self.cells + 1 < self.columns {
-            self.cells += 1;
-        } else {
-            self.cells = 0;
-            self.rows += 1;
-        }
-        Ok(())
-    }
-
-    // A table's command: a lawful name that no table before it has.
-    fn take_table(&mut self, bytes: &[u8]) -> Result<(), BatchFault>
-        requires placed { Placed bytes.now self.old }
-        requires within { self.old.pos < length bytes.now }
-        requires short { length bytes.now ≤ 16777216 }
-        requires stage { self.old.stage ≡ Between }
-        requires byte { slice_index bytes.now self.old.pos ≡ 1 }
-        ensures { Stepped bytes.now self.old self.new result }
-    {
-        let at = self.pos;
-        if self.catalog.count >= 8 {
-            return Err(BatchFault { place: at });
-        }
-        if bytes.len() - at < 17 {
-            return Err(BatchFault { place: bytes.len() });
-        }
-        let Some(name) = name_at(bytes, at + 1) else {
-            return Err(BatchFault { place: at });
-        };
-        if self.catalog.find(bytes, name).is_some() {
-            return Err(BatchFault { place: at });
-        }
-        self.stage = Stage::Columns;
-        self.pos = at + 17;
-        self.at = at;
-        self.columns = 0;
-        self.rows = 0;
-        self.cells = 0;
-        Ok(())
-    }
-
-    // Takes the command at the position, or refuses it at its place.
-    fn step(&mut self, bytes: &[u8]) -> Result<(), BatchFault>
-        requires placed { Placed bytes.now self.old }
-        requires within { self.old.pos < length bytes.now }
-        requires short { length bytes.now ≤ 16777216 }
-        ensures { Stepped bytes.now self.old self.new result }
-    {
-        match (self.stage, bytes[self.pos]) {
-            (Stage::Between, TABLE) => self.take_table(bytes),
-            (Stage::Columns, COLUMN) => self.take_column(bytes),
-            (Stage::Columns | Stage::Cells, NULL..=TEXT) => self.take_cell(bytes),
-            (Stage::Columns | Stage::Cells, END) => self.take_end(bytes),
-            _ => Err(BatchFault { place: self.pos }),
         }
     }
 
@@ -179,7 +32,153 @@ impl Checker {
     {
         match self.stage {
             Stage::Between => Ok(self.catalog),
-            Stage::Columns | Stage::Cells => Err(BatchFault { place: self.pos }),
+            Stage::Columns(_) | Stage::Cells(_) => Err(BatchFault { place: self.pos }),
+        }
+    }
+}
+
+impl Checker<'_> {
+    // An end of the table in progress: there are columns, and no row is begun.
+    #[tactic(auto, using(crate::proofs::Ends::rows_few))]
+    fn take_end(&self, table: Begun) -> Result<Progress, BatchFault>
+        requires table { InTable table self.now.progress.stage }
+        requires byte { slice_index self.now.bytes.now self.now.progress.pos ≡ 127 }
+        ensures { Stepped self.now.bytes.now self.now.progress result }
+    {
+        let at = self.progress.pos;
+        if table.columns == 0 || table.cells != 0 {
+            return Err(BatchFault { place: at });
+        }
+        let mut catalog = self.progress.catalog;
+        let count = catalog.count;
+        catalog.tables[count] = Layout {
+            at: table.at as u32,
+            width: table.columns as u8,
+            rows: table.rows as u32,
+        };
+        catalog.count = count + 1;
+        Ok(Progress {
+            stage: Stage::Between,
+            pos: at + 1,
+            catalog,
+        })
+    }
+
+    // One column more: a lawful name and a type.
+    fn take_column(&self, table: Begun) -> Result<Progress, BatchFault>
+        requires stage { self.now.progress.stage ≡ Columns table }
+        requires byte { slice_index self.now.bytes.now self.now.progress.pos ≡ 2 }
+        ensures { Stepped self.now.bytes.now self.now.progress result }
+    {
+        let at = self.progress.pos;
+        if table.columns >= 8 {
+            return Err(BatchFault { place: at });
+        }
+        let len = self.bytes.len();
+        if len - at < COLUMN_WIDTH {
+            return Err(BatchFault { place: len });
+        }
+        let named = name_at(self.bytes, at + 1).is_some();
+        if !named || ColumnType::try_from(self.bytes[at + TYPE_OFFSET]).is_err() {
+            return Err(BatchFault { place: at });
+        }
+        Ok(Progress {
+            stage: Stage::Columns(Begun {
+                columns: table.columns + 1,
+                ..table
+            }),
+            pos: at + COLUMN_WIDTH,
+            ..self.progress
+        })
+    }
+
+    // One cell more, null or of its column's type, which may fill its row.
+    fn take_cell(&self, table: Begun) -> Result<Progress, BatchFault>
+        requires table { InTable table self.now.progress.stage }
+        requires byte { CellByte (slice_index self.now.bytes.now self.now.progress.pos) }
+        ensures { Stepped self.now.bytes.now self.now.progress result }
+    {
+        let at = self.progress.pos;
+        if table.cells >= table.columns {
+            return Err(BatchFault { place: at });
+        }
+        let first = table.at + TABLE_WIDTH;
+        let column = type_at(self.bytes[first + COLUMN_WIDTH * table.cells + TYPE_OFFSET]);
+        if !column.accepts_command(self.bytes[at]) {
+            return Err(BatchFault { place: at });
+        }
+        let len = self.bytes.len();
+        if len - at < CELL_WIDTH {
+            return Err(BatchFault { place: len });
+        }
+        if value_at(self.bytes, at).is_none() {
+            return Err(BatchFault { place: at });
+        }
+        let table = if table.cells + 1 < table.columns {
+            Begun {
+                cells: table.cells + 1,
+                ..table
+            }
+        } else {
+            Begun {
+                cells: 0,
+                rows: table.rows + 1,
+                ..table
+            }
+        };
+        Ok(Progress {
+            stage: Stage::Cells(table),
+            pos: at + CELL_WIDTH,
+            ..self.progress
+        })
+    }
+
+    // A table's command: a lawful name that no table before it has.
+    #[tactic(auto, using(crate::proofs::NewTables::ninth_table, crate::proofs::NewTables::table_cut, crate::proofs::Stages::byte_within))]
+    fn take_table(&self) -> Result<Progress, BatchFault>
+        requires stage { self.now.progress.stage ≡ Between }
+        requires byte { slice_index self.now.bytes.now self.now.progress.pos ≡ 1 }
+        ensures { Stepped self.now.bytes.now self.now.progress result }
+    {
+        let catalog = self.progress.catalog;
+        let at = self.progress.pos;
+        if catalog.count >= 8 {
+            return Err(BatchFault { place: at });
+        }
+        let len = self.bytes.len();
+        if len - at < TABLE_WIDTH {
+            return Err(BatchFault { place: len });
+        }
+        let name = name_at(self.bytes, at + 1).ok_or(BatchFault { place: at })?;
+        if catalog.find(self.bytes, name).is_some() {
+            return Err(BatchFault { place: at });
+        }
+        Ok(Progress {
+            stage: Stage::Columns(Begun {
+                at,
+                columns: 0,
+                rows: 0,
+                cells: 0,
+            }),
+            pos: at + TABLE_WIDTH,
+            catalog,
+        })
+    }
+
+    // Takes the command at the position, or refuses it at its place.
+    #[tactic(auto, using(crate::proofs::OtherBytes::no_table))]
+    fn step(&self) -> Result<Progress, BatchFault>
+        requires within { self.now.progress.pos < length self.now.bytes.now }
+        ensures { Stepped self.now.bytes.now self.now.progress result }
+    {
+        let place = self.progress.pos;
+        // The project fixes this form: what may stand here is one match on the stage and the byte.
+        match (self.progress.stage, self.bytes[place]) {
+            (Stage::Between, TABLE) => self.take_table(),
+            (Stage::Columns(table), COLUMN) => self.take_column(table),
+            (Stage::Columns(table) | Stage::Cells(table), NULL..=TEXT) => self.take_cell(table),
+            (Stage::Columns(table) | Stage::Cells(table), END) => self.take_end(table),
+            _ => Err(BatchFault { place }),
         }
     }
 }
@@ -195,9 +194,10 @@ pub fn check(bytes: &[u8]) -> Result<Catalog, BatchFault>
     if bytes.len() > LONGEST {
         return Err(BatchFault { place: LONGEST });
     }
-    let mut checker = Checker::new();
-    while checker.pos < bytes.len() {
-        checker.step(bytes)?;
+    let mut progress = Progress::start();
+    // No iterator goes over the commands, since each has a width of its own.
+    while progress.pos < bytes.len() {
+        progress = Checker { bytes, progress }.step()?;
     }
-    checker.close()
+    progress.close()
 }

@@ -9,7 +9,8 @@ pub struct Layout {
     pub(crate) rows: u32,
 }
 
-// The tables of a batch, in its order: the first `count` layouts.
+// The tables of a batch, in its order: the first `count` layouts. They stand in an array, since a
+// catalog allocates nothing and is copied, which no vector is.
 #[derive(Clone, Copy)]
 pub struct Catalog {
     pub(crate) tables: [Layout; 8],

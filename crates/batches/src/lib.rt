@@ -4,6 +4,8 @@
 mod checker;
 pub mod checking;
 pub mod columns;
+pub mod command;
+mod command_bytes;
 pub mod layout;
 mod reads;
 pub mod writer;

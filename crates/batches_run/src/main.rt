@@ -4,6 +4,7 @@
 use anyhow::anyhow;
 use batches::checking::check;
 use batches::columns::Column;
+use batches::command::End;
 use batches::writer::BatchWriter;
 use std::alloc::{AllocError, Global};
 use values::kinds::ColumnType;
@@ -15,32 +16,25 @@ use values::value::Value;
 fn numbered(
     writer: &mut BatchWriter,
     name: Name,
-    columns: usize,
+    columns: i32,
     rows: i32,
 ) -> Result<(), AllocError> {
     let holds = ColumnType::Integer;
-    writer.table(name)?;
+    writer.put(name)?;
     for _ in 0..columns {
-        writer.column(Column { name, holds })?;
+        writer.put(Column { name, holds })?;
     }
-    let mut number: i32 = 0;
-    for _ in 0..rows {
-        for _ in 0..columns {
-            writer.cell(Value::integer(number))?;
-            number = number.wrapping_add(1);
-        }
+    for number in 0..columns.wrapping_mul(rows) {
+        writer.put(Value::integer(number))?;
     }
-    writer.end()
+    writer.put(End)
 }
 
 fn lawful(bytes: &[u8]) -> anyhow::Result<Name> {
-    match Name::new(bytes) {
-        Some(name) => Ok(name),
-        None => Err(anyhow!("no lawful name")),
-    }
+    Name::new(bytes).ok_or_else(|| anyhow!("no lawful name"))
 }
 
-fn one_table(heap: Global, columns: usize, rows: i32) -> anyhow::Result<Vec<u8>> {
+fn one_table(heap: Global, columns: i32, rows: i32) -> anyhow::Result<Vec<u8>> {
     let mut writer = BatchWriter::new(heap);
     numbered(&mut writer, lawful(b"t")?, columns, rows)?;
     Ok(writer.finish())
@@ -48,9 +42,7 @@ fn one_table(heap: Global, columns: usize, rows: i32) -> anyhow::Result<Vec<u8>>
 
 // The number in an integer's cell; none for any other cell.
 fn number_in(value: Option<Value>) -> Option<u32> {
-    let mut cell = [0; 17];
-    value?.write(&mut cell);
-    let [0x11, a, b, c, d, ..] = cell else {
+    let [0x11, a, b, c, d, ..] = value?.to_bytes() else {
         return None;
     };
     Some(u32::from_be_bytes([a, b, c, d]))

@@ -19,9 +19,7 @@ fn read_as(rt: &impl Abort, bytes: &[u8], cell: &[u8; 17]) -> Result<(), Fail> {
     let catalog = taken(bytes)?;
     assert_eq!(rt; catalog.rows(0), Some(1));
     let value = catalog.cell(bytes, 0, 0, 0).ok_or(())?;
-    let mut written = [0; 17];
-    value.write(&mut written);
-    assert_eq!(rt; written, *cell);
+    assert_eq!(rt; value.to_bytes(), *cell);
     Ok(())
 }
 
@@ -152,11 +150,10 @@ fn rows_of_two(rt: HostRuntime) -> Result<(), Fail> {
     )?;
     let catalog = taken(&bytes)?;
     assert_eq!(rt; catalog.rows(0), Some(2));
-    let mut written = [0; 17];
-    catalog.cell(&bytes, 0, 1, 0).ok_or(())?.write(&mut written);
-    assert!(rt; &written[0..17] == SEVEN);
-    catalog.cell(&bytes, 0, 1, 1).ok_or(())?.write(&mut written);
-    assert!(rt; &written[0..17] == WORD);
+    let number = catalog.cell(&bytes, 0, 1, 0).ok_or(())?;
+    assert!(rt; number.to_bytes().as_slice() == SEVEN);
+    let word = catalog.cell(&bytes, 0, 1, 1).ok_or(())?;
+    assert!(rt; word.to_bytes().as_slice() == WORD);
     assert!(rt; catalog.cell(&bytes, 0, 2, 0).is_none() && catalog.cell(&bytes, 0, 0, 2).is_none());
     Ok(())
 }

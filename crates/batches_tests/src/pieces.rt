@@ -22,27 +22,18 @@ pub(crate) const END: &[u8] = b"\x7f";
 
 // The pieces, one after another.
 pub(crate) fn joined(heap: Global, pieces: &[&[u8]]) -> Result<Vec<u8>, AllocError> {
-    let mut bytes = Vec::new(heap);
-    for piece in pieces {
-        bytes.extend_from_slice(piece)?;
-    }
-    Ok(bytes)
+    pieces.concat(heap)
 }
 
 // The batch is lawful.
 pub(crate) fn taken(bytes: &[u8]) -> Result<Catalog, Fail> {
-    match check(bytes) {
-        Ok(catalog) => Ok(catalog),
-        Err(fault) => Err(Fail::new(format_args!("refused at {}", fault.place))),
-    }
+    check(bytes).map_err(|fault| Fail::new(format_args!("refused at {}", fault.place)))
 }
 
 // The place at which the batch is refused.
 pub(crate) fn place_refused(bytes: &[u8]) -> Result<usize, Fail> {
-    match check(bytes) {
-        Ok(_) => Err(Fail::new("taken, not refused")),
-        Err(fault) => Ok(fault.place),
-    }
+    let fault = check(bytes).err().ok_or("taken, not refused")?;
+    Ok(fault.place)
 }
 
 // The batch is refused, at this place.

@@ -63,23 +63,12 @@ fn eight_columns_and_nine(rt: HostRuntime) -> Result<(), Fail> {
     assert_eq!(rt; catalog.rows(0), Some(0));
     for i in 0..8 {
         let Column { name, holds } = catalog.column(&bytes, 0, i).ok_or(())?;
-        let is_real = i % 2 == 0;
-        assert_eq!(rt;
-            name.to_bytes(),
-            if is_real {
-                *b"x               "
-            } else {
-                *b"s               "
-            }
-        );
-        assert_eq!(rt;
-            holds,
-            if is_real {
-                ColumnType::Real
-            } else {
-                ColumnType::Text
-            }
-        );
+        let expected = if i % 2 == 0 {
+            (*b"x               ", ColumnType::Real)
+        } else {
+            (*b"s               ", ColumnType::Text)
+        };
+        assert_eq!(rt; (name.to_bytes(), holds), expected);
     }
     assert!(rt; catalog.column(&bytes, 0, 8).is_none() && catalog.column(&bytes, 1, 0).is_none());
     let _ = bytes.pop();

@@ -1,49 +1,65 @@
 // What is written: the commands' bytes, and tables that read back.
 use crate::pieces::*;
 use batches::columns::Column;
+use batches::command::{Command, End};
 use batches::writer::{BatchWriter, TableData};
-use batches::writing::{write_column, write_table, write_tables};
+use batches::writing::{write, write_tables};
 use std::alloc::{AllocError, Global};
+use std::process::Abort;
 use std::test::Fail;
 use values::kinds::ColumnType;
 use values::name::Name;
 use values::value::Value;
 
-#[test]
-fn commands_in_an_area(rt: HostRuntime) -> Result<(), Fail> {
-    let name = Name::new(b"t").ok_or(())?;
-    let holds = ColumnType::Text;
+// The command is written into an area of its own width, and nothing into any other.
+fn in_an_area<C: Command>(
+    rt: &impl Abort,
+    command: C,
+    width: usize,
+    expected: &[u8; 19],
+) -> Result<(), Fail> {
     let unwritten = [7; 19];
     for len in 0..20 {
         let mut area = [7; 19];
-        assert_eq!(rt; write_table(name, &mut area[0..len]), len == 17);
-        let expected = *b"\x01t               \x07\x07";
-        assert_eq!(rt; area, if len == 17 { expected } else { unwritten });
-    }
-    for len in 0..20 {
-        let mut area = [7; 19];
-        assert_eq!(rt;
-            write_column(Column { name, holds }, &mut area[0..len]),
-            len == 18
-        );
-        let expected = *b"\x02t               \x03\x07";
-        assert_eq!(rt; area, if len == 18 { expected } else { unwritten });
+        assert_eq!(rt; write(command, &mut area[0..len]).is_ok(), len == width);
+        assert_eq!(rt; area, if len == width { *expected } else { unwritten });
     }
     Ok(())
 }
 
 #[test]
+fn commands_in_an_area(rt: HostRuntime) -> Result<(), Fail> {
+    let name = Name::new(b"t").ok_or(())?;
+    let holds = ColumnType::Text;
+    let word = Value::text(b"a word").ok_or(())?;
+    in_an_area(&rt, name, 17, b"\x01t               \x07\x07")?;
+    in_an_area(
+        &rt,
+        Column { name, holds },
+        18,
+        b"\x02t               \x03\x07",
+    )?;
+    in_an_area(&rt, word, 17, b"\x13a word          \x07\x07")?;
+    in_an_area(
+        &rt,
+        End,
+        1,
+        b"\x7f\x07\x07\x07\x07\x07\x07\x07\x07\x07\x07\x07\x07\x07\x07\x07\x07\x07\x07",
+    )
+}
+
+#[test]
 fn command_by_command(rt: HostRuntime) -> Result<(), Fail> {
     let mut writer = BatchWriter::new(rt.alloc());
-    writer.table(Name::new(b"t").ok_or(())?)?;
+    writer.put(Name::new(b"t").ok_or(())?)?;
     let name = Name::new(b"n").ok_or(())?;
-    writer.column(Column {
+    writer.put(Column {
         name,
         holds: ColumnType::Integer,
     })?;
-    writer.cell(Value::integer(7))?;
-    writer.cell(Value::null())?;
-    writer.end()?;
+    writer.put(Value::integer(7))?;
+    writer.put(Value::null())?;
+    writer.put(End)?;
     let bytes = writer.finish();
     let null = b"\x10\0\0\0\0\0\0\0\0\0\0\0\0\0\0\0\0";
     let expected = joined(rt.alloc(), &[TABLE, INTEGERS, SEVEN, null, END])?;

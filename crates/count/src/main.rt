@@ -4,14 +4,15 @@
 
 use anyhow::anyhow;
 use batches::checking::LONGEST;
+use batches::columns::Column;
 use std::fs::File;
 use std::io::{ErrorKind, Read};
-use std::{env, fs, io};
+use std::{env, io};
 use stores::batch_store::BatchStore;
-use stores::faults::LoadError;
+use stores::faults::{Fault, LoadError};
+use stores::names::Names;
 use stores::pair::Pair;
-use stores::store::{Listed, Store};
-use values::kinds::ColumnType;
+use stores::store::Listed;
 use values::name::Name;
 
 const DEFAULT_FILE: &str = "season";
@@ -33,45 +34,18 @@ fn read_batch(rt: &HostRuntime, path: &str) -> io::Result<Vec<u8>> {
     Ok(bytes)
 }
 
-fn type_word(holds: ColumnType) -> &'static str {
-    match holds {
-        ColumnType::Integer => "integer",
-        ColumnType::Real => "real",
-        ColumnType::Text => "text",
-    }
-}
-
-// The name without its filling.
-fn print_name(rt: &HostRuntime, name: Name) -> io::Result<()> {
-    for byte in name.to_bytes() {
-        if byte == b' ' {
-            break;
-        }
-        let letter = byte as char;
-        print!(rt; "{letter}")?;
-    }
-    Ok(())
-}
-
 // One table's line; answers its rows, of which a table that is too long counts none.
 fn print_table<S: Listed>(rt: &HostRuntime, store: &S, name: Name) -> io::Result<usize> {
     let Some(table) = store.find(name) else {
         return Ok(0);
     };
-    print_name(rt, name)?;
     let count = store.count(table);
     match count {
-        Some(rows) => print!(rt; ": {rows} rows")?,
-        None => print!(rt; ": too long")?,
+        Some(rows) => print!(rt; "{name}: {rows} rows")?,
+        None => print!(rt; "{name}: too long")?,
     }
-    for i in 0..8 {
-        let Some(column) = store.column(table, i) else {
-            break;
-        };
-        print!(rt; ", ")?;
-        print_name(rt, column.name)?;
-        let word = type_word(column.holds);
-        print!(rt; " {word}")?;
+    for Column { name, holds } in (0..8).map_while(|i| store.column(table, i)) {
+        print!(rt; ", {name} {holds}")?;
     }
     println!(rt)?;
     Ok(count.unwrap_or(0))
@@ -79,13 +53,12 @@ fn print_table<S: Listed>(rt: &HostRuntime, store: &S, name: Name) -> io::Result
 
 // A line for each table and the line of the total.
 fn print_tables<S: Listed>(rt: &HostRuntime, store: &S) -> io::Result<()> {
+    // The tables are counted here: an iterator's `count` asks for a proof that there are fewer than
+    // 2^64 of them, and no store says so.
     let mut tables = 0usize;
     let mut rows = 0usize;
-    for place in 0..usize::MAX {
-        let Some(name) = store.name(place) else {
-            break;
-        };
-        tables = place + 1;
+    for name in Names::new(store) {
+        tables = tables.saturating_add(1);
         rows = rows.saturating_add(print_table(rt, store, name)?);
     }
     println!(rt; "{tables} tables, {rows} rows")
@@ -99,9 +72,10 @@ fn load(rt: &HostRuntime, path: &str) -> anyhow::Result<Option<BatchStore>> {
     match store.load(rt.alloc(), &batch) {
         Ok(()) => Ok(Some(store)),
         Err(LoadError::Refused(fault)) => {
+            let layer = fault.layer();
             let number = fault.number();
             let place = fault.place();
-            println!(rt; "refused store {number} {place}")?;
+            println!(rt; "refused {layer} {number} {place}")?;
             Ok(None)
         }
         Err(LoadError::OutOfMemory) => Err(anyhow!("no memory for the batch")),

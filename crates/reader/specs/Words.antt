@@ -1,27 +1,24 @@
 -- The words of a text, and what is wrong with them. Assumes nothing.
-use Rattle.std.specs.Prelude.{ℕ, ◌+◌, ◌-◌, ◌*◌, ◌^◌, ◌<◌, Bool, cond, ◌&&◌, List, [], ◌∷◌, map, length, pos, Some, None, Ok, Err, codes, filter, Option, Result, ◌==◌, nat_le, nat_lt, slice_index}
+use Rattle.std.specs.Prelude.{ℕ, ◌+◌, ◌-◌, ◌*◌, ◌^◌, Bool, cond, ◌&&◌, List, map, length, drop, pos, Some, None, Ok, Err, filter, fold, Option, Result, ◌==◌, nat_le, nat_lt, slice_index}
 use Rattle.std.specs.Float.{binary64}
 use Rattle.std.specs.Float.Ieee.{div, of_int}
 use Rattle.std.specs.List.{between}
 use Rattle.std.specs.Option.{unwrap_or}
 use Rattle.std.specs.Bool.{then_some}
 use Rattle.std.specs.Char.{to_ascii_lowercase}
-use Rattle.std.specs.Str.{bytes_eq}
+use Rattle.values.specs.Bytes.{printable}
 use Rattle.values.specs.Cells.{Cell, integer, null, text, cell_of}
+use Rattle.values.specs.Keywords.{keyword_of}
 use Rattle.values.specs.Made.{real_cell}
 use Rattle.values.specs.Named.{name_bytes}
 use Rattle.values.specs.Names.{decimal_digit, filled}
-use Rattle.reader.specs.Classes.{begins_name, blank, in_word, is_of, run_end}
-use Rattle.reader.specs.declared.word.Class.TheVariants.{Digit, Printable, Unquoted}
-use Rattle.reader.specs.declared.word.Keyword.{Keyword}
-use Rattle.reader.specs.declared.word.Keyword.TheVariants.{Select, From, Where, Union, Intersection, And, Or, Not}
+use Rattle.values.specs.declared.keyword.Keyword.{Keyword}
+use Rattle.reader.specs.Classes.{begins_name, blank, in_word, run_end, unquoted}
 use Rattle.reader.specs.declared.word.ReaderFault.{ReaderFault}
 use Rattle.reader.specs.declared.word.ReaderFault.TheVariants.{TextTooLong, Byte, WordTooLong}
 use Rattle.reader.specs.declared.word.Scanned.{Scanned}
 use Rattle.reader.specs.declared.word.Symbol.{Symbol}
 use Rattle.reader.specs.declared.word.Symbol.TheVariants.{Comma, Point, Open, Close, Plus, Minus, Star, Slash, Equal, NotEqual, Less, Greater, LessOrEqual, GreaterOrEqual}
-use Rattle.reader.specs.declared.word.WordKind.{WordKind}
-use Rattle.reader.specs.declared.word.WordKind.TheVariants.{Letters, Number, Text, Symbol as SymbolKind}
 use Rattle.reader.specs.declared.word.Word.{Word}
 use Rattle.reader.specs.declared.word.Word.TheVariants.{Keyword as KeywordWord, Symbol as SymbolWord, Name as NameWord, Literal as LiteralWord}
 
@@ -42,17 +39,6 @@ pub data Scan : Type 0 where
 unfoldable pub small_letters : List ℕ → ℕ → ℕ → List ℕ
 small_letters bs at end = filled (map to_ascii_lowercase (between at end bs))
 
-abbrev pub keyword_of : List ℕ → Option Keyword
-keyword_of w =
-    cond (bytes_eq w (filled (codes "select"))) (Some Select)
-    (cond (bytes_eq w (filled (codes "from"))) (Some From)
-    (cond (bytes_eq w (filled (codes "where"))) (Some Where)
-    (cond (bytes_eq w (filled (codes "union"))) (Some Union)
-    (cond (bytes_eq w (filled (codes "intersection"))) (Some Intersection)
-    (cond (bytes_eq w (filled (codes "and"))) (Some And)
-    (cond (bytes_eq w (filled (codes "or"))) (Some Or)
-    (cond (bytes_eq w (filled (codes "not"))) (Some Not) None)))))))
-
 -- a keyword, or else a name
 abbrev pub named : List ℕ → Option Keyword → Meant
 named w (Some k) = keyword k
@@ -71,12 +57,11 @@ closed_text bs at odd close =
 -- the text that begins at an offset, with its quote: it goes on to the next quote, and there must be one
 unfoldable pub text_word : List ℕ → ℕ → Scan
 text_word bs at =
-    cond (nat_lt (run_end (is_of Unquoted) bs (at + 1)) (length bs)) (closed_text bs at (run_end (is_of Printable) bs (at + 1)) (run_end (is_of Unquoted) bs (at + 1))) (faulty 2 at)
+    cond (nat_lt (run_end unquoted bs (at + 1)) (length bs)) (closed_text bs at (run_end printable bs (at + 1)) (run_end unquoted bs (at + 1))) (faulty 2 at)
 
 -- the number that digits write, the first highest
-abbrev pub read_on : ℕ → List ℕ → ℕ
-read_on n [] = n
-read_on n (d ∷ ds) = read_on (n * 10 + (d - 48)) ds
+abbrev pub written : List ℕ → ℕ
+written = fold (λ n d. n * 10 + (d - 48)) 0
 
 -- the digits between two offsets
 abbrev pub digits_in : List ℕ → ℕ → ℕ → List ℕ
@@ -84,15 +69,15 @@ digits_in bs at end = filter decimal_digit (between at end bs)
 
 -- their number, if they are not too many
 unfoldable pub decimal_of : List ℕ → Option ℕ
-decimal_of ds = then_some (nat_le (length ds) 15) (read_on 0 ds)
+decimal_of ds = then_some (nat_le (length ds) 15) (written ds)
 
 -- the real of digits of which k stand behind the point: both numbers are doubles, so it is rounded once
 unfoldable pub real_of : ℕ → ℕ → Cell
 real_of n k = unwrap_or (real_cell (div binary64 (of_int binary64 (pos n)) (of_int binary64 (pos (10 ^ k))))) null
 
--- a point and a digit behind it
-unfoldable pub point_at : List ℕ → ℕ → Bool
-point_at bs at = slice_index bs at == 46 && decimal_digit (slice_index bs (at + 1))
+-- a point and a digit come first
+unfoldable pub begins_fraction : List ℕ → Bool
+begins_fraction bs = slice_index bs 0 == 46 && decimal_digit (slice_index bs 1)
 
 -- a number without a point: an integer up to the largest
 abbrev pub whole_by : ℕ → ℕ → Option ℕ → Scan
@@ -107,11 +92,11 @@ fraction_by at end k (Some n) = found (literal (real_of n k)) at end
 -- the number that begins at an offset, where the digits up to a point, if any, end at a second, and those behind it at a third
 abbrev pub number_by : List ℕ → ℕ → ℕ → ℕ → Scan
 number_by bs at point end =
-    cond (point_at bs point) (fraction_by at end (end - (point + 1)) (decimal_of (digits_in bs at end))) (whole_by at point (decimal_of (digits_in bs at point)))
+    cond (begins_fraction (drop point bs)) (fraction_by at end (end - (point + 1)) (decimal_of (digits_in bs at end))) (whole_by at point (decimal_of (digits_in bs at point)))
 
 unfoldable pub number_word : List ℕ → ℕ → Scan
 number_word bs at =
-    number_by bs at (run_end (is_of Digit) bs at) (run_end (is_of Digit) bs (run_end (is_of Digit) bs at + 1))
+    number_by bs at (run_end decimal_digit bs at) (run_end decimal_digit bs (run_end decimal_digit bs at + 1))
 
 -- two bytes that are one symbol
 abbrev pub long_symbol : ℕ → ℕ → Option Symbol
@@ -142,19 +127,17 @@ symbol_by at None None = faulty 2 at
 unfoldable pub symbol_word : List ℕ → ℕ → Scan
 symbol_word bs at = symbol_by at (long_symbol (slice_index bs at) (slice_index bs (at + 1))) (short_symbol (slice_index bs at))
 
--- the kind of a word by its first byte
-abbrev pub kind_of : ℕ → WordKind
-kind_of b = cond (begins_name b) Letters (cond (decimal_digit b) Number (cond (b == 39) Text SymbolKind))
-
-abbrev pub word_by : List ℕ → ℕ → WordKind → Scan
-word_by bs at Letters = name_word bs at (run_end in_word bs at)
-word_by bs at Number = number_word bs at
-word_by bs at Text = text_word bs at
-word_by bs at SymbolKind = symbol_word bs at
+-- the word that begins at an offset with this byte: letters, a number, a text or a symbol
+abbrev pub word_by : List ℕ → ℕ → ℕ → Scan
+word_by bs at b =
+    cond (begins_name b) (name_word bs at (run_end in_word bs at))
+    (cond (decimal_digit b) (number_word bs at)
+    (cond (b == 39) (text_word bs at)
+    (symbol_word bs at)))
 
 -- the word that begins at an offset
 abbrev pub word_at : List ℕ → ℕ → Scan
-word_at bs at = word_by bs at (kind_of (slice_index bs at))
+word_at bs at = word_by bs at (slice_index bs at)
 
 -- the next word from an offset on, behind the blanks
 unfoldable pub scan_from : List ℕ → ℕ → Scan
@@ -172,16 +155,6 @@ abbrev pub scan_fault : ReaderFault → Scan
 scan_fault TextTooLong = faulty 1 1024
 scan_fault (Byte p) = faulty 2 p
 scan_fault (WordTooLong p) = faulty 3 p
-
--- what an answer says of a word that begins and ends at these offsets
-abbrev pub word_scan : Result Word ReaderFault → ℕ → ℕ → Scan
-word_scan (Ok w) at end = found (meant_by w) at end
-word_scan (Err f) at end = scan_fault f
-
--- a number that is there and has at most fifteen digits
-abbrev pub UpTo15 : Option ℕ → Type 0
-UpTo15 None = Unit {0}
-UpTo15 (Some n) = n < 10 ^ 15
 
 -- what an answer with its offsets says
 abbrev pub scan_of : Result Scanned ReaderFault → Scan

@@ -1,136 +1,32 @@
-ghost use Rattle.std.specs.Prelude.{◌≡◌, ◌+◌, ◌<◌, ◌≤◌, true, length, slice_index};
-ghost use Rattle.reader.specs.Classes.{begins_name, in_word, is_of, run_end};
-ghost use Rattle.reader.specs.Words.{keyword_of, kind_of, long_symbol, name_word, next_scan, scan_from, scan_of, short_symbol, small_letters, symbol_word, text_word, word_at, word_scan};
+ghost use Rattle.std.specs.Prelude.{◌≡◌, true, map, length, nat_le, slice_index};
+ghost use Rattle.std.specs.Char.{to_ascii_lowercase};
+ghost use Rattle.values.specs.Names.{filled_if};
+ghost use Rattle.reader.specs.Classes.{begins_name, in_word, run_end};
+ghost use Rattle.reader.specs.Words.{long_symbol, name_word, next_scan, scan_from, scan_of, short_symbol, symbol_word, text_word, word_at};
 
-use crate::numbers::number_word;
-use crate::word::{Class, Keyword, ReaderFault, Scanned, Symbol, Word, WordKind};
+use crate::start::{WordStart, run_end};
+use crate::word::{Keyword, ReaderFault, Scanned, Symbol, Word};
+use values::bytes::fill;
 use values::name::Name;
-use values::naming::same;
 use values::value::Value;
 
-impl Class {
-    fn has(self, b: u8) -> bool
-        ensures { result ≡ is_of self b }
-    {
-        match self {
-            Class::Blank => matches!(b, b' ' | b'\t' | b'\n'),
-            Class::InWord => matches!(b, b'a'..=b'z' | b'A'..=b'Z' | b'0'..=b'9' | b'_'),
-            Class::Digit => b.is_ascii_digit(),
-            Class::Unquoted => b != b'\'',
-            Class::Printable => matches!(b, b' '..=b'~'),
-        }
-    }
-}
-
-// Where a run of bytes of a class ends.
-pub(crate) fn run_end(text: &[u8], from: usize, class: Class) -> usize
-    requires { from ≤ length text.now }
-    ensures end { result ≡ run_end (is_of class) text.now from }
-    ensures begins { from ≤ result }
-    ensures within { result ≤ length text.now }
+// The small letters of up to sixteen bytes, filled with spaces; none for more.
+fn small_letters(bytes: &[u8]) -> Option<[u8; 16]>
+    ensures { result ≡ filled_if (nat_le (length bytes.now) 16) (map to_ascii_lowercase bytes.now) }
 {
-    let mut at = from;
-    while at < text.len() && class.has(text[at]) {
-        at += 1;
-    }
-    at
+    let letters = fill(bytes)?;
+    Some(letters.map(|b| b.to_ascii_lowercase()))
 }
 
-// The small letters of a run of bytes, filled with spaces.
-fn small_letters(text: &[u8], at: usize, end: usize) -> [u8; 16]
-    requires { (at ≤ end) × ((end ≤ length text.now) × (end ≤ at + 16)) }
-    ensures { result ≡ small_letters text.now at end }
-{
-    let mut letters = [b' '; 16];
-    for i in at..end {
-        letters[i - at] = text[i].to_ascii_lowercase();
-    }
-    letters
-}
-
-fn keyword(letters: &[u8]) -> Option<Keyword>
-    ensures { result ≡ keyword_of letters.now }
-{
-    if same(letters, b"select          ") {
-        Some(Keyword::Select)
-    } else if same(letters, b"from            ") {
-        Some(Keyword::From)
-    } else if same(letters, b"where           ") {
-        Some(Keyword::Where)
-    } else if same(letters, b"union           ") {
-        Some(Keyword::Union)
-    } else if same(letters, b"intersection    ") {
-        Some(Keyword::Intersection)
-    } else if same(letters, b"and             ") {
-        Some(Keyword::And)
-    } else if same(letters, b"or              ") {
-        Some(Keyword::Or)
-    } else if same(letters, b"not             ") {
-        Some(Keyword::Not)
-    } else {
-        None
-    }
-}
-
-// The name or keyword that is a run of bytes.
-fn name_word(text: &[u8], at: usize, end: usize) -> Result<Word, ReaderFault>
-    requires { (at < length text.now) × ((begins_name (slice_index text.now at) ≡ true) × ((end ≡ run_end in_word text.now at) × (end ≤ length text.now))) }
-    ensures { word_scan result at end ≡ name_word text.now at end }
-{
-    if end - at > 16 {
-        return Err(ReaderFault::WordTooLong { place: at });
-    }
-    let letters = small_letters(text, at, end);
-    if let Some(keyword) = keyword(&letters) {
-        return Ok(Word::Keyword(keyword));
-    }
-    match Name::new(&letters) {
-        Some(name) => Ok(Word::Name(name)),
-        None => Err(ReaderFault::WordTooLong { place: at }),
-    }
-}
-
-// The text that begins with the quote at an offset.
-fn text_word(text: &[u8], at: usize) -> Result<Scanned, ReaderFault>
-    requires { at < length text.now }
-    ensures { scan_of result ≡ text_word text.now at }
-{
-    let close = run_end(text, at + 1, Class::Unquoted);
-    if close >= text.len() {
-        return Err(ReaderFault::Byte { place: at });
-    }
-    let odd = run_end(text, at + 1, Class::Printable);
-    if odd < close {
-        return Err(ReaderFault::Byte { place: odd });
-    }
-    let Some(value) = Value::text(&text[at + 1..close]) else {
-        return Err(ReaderFault::WordTooLong { place: at });
-    };
-    Ok(Scanned {
-        word: Word::Literal(value),
-        place: at,
-        end: close + 1,
-    })
-}
-
-// Two bytes that are one symbol.
-fn symbol_of_two(first: u8, second: u8) -> Option<Symbol>
-    ensures { result ≡ long_symbol first second }
-{
-    match (first, second) {
-        (b'<', b'=') => Some(Symbol::LessOrEqual),
-        (b'<', b'>') => Some(Symbol::NotEqual),
-        (b'>', b'=') => Some(Symbol::GreaterOrEqual),
-        _ => None,
-    }
-}
-
-// A symbol of two bytes at the beginning of what is left.
+// A symbol of two bytes, where one comes first. The patterns need two bytes, so at a text's last byte
+// none of them fits.
 fn long_symbol(left: &[u8]) -> Option<Symbol>
     ensures { result ≡ long_symbol (slice_index left.now 0) (slice_index left.now 1) }
 {
     match left {
-        [first, second, _rest @ ..] => symbol_of_two(*first, *second),
+        [b'<', b'=', ..] => Some(Symbol::LessOrEqual),
+        [b'<', b'>', ..] => Some(Symbol::NotEqual),
+        [b'>', b'=', ..] => Some(Symbol::GreaterOrEqual),
         _ => None,
     }
 }
@@ -154,78 +50,79 @@ fn short_symbol(first: char) -> Option<Symbol>
     }
 }
 
-// The symbol that begins at an offset, the longer where two fit.
-fn symbol_word(text: &[u8], at: usize) -> Result<Scanned, ReaderFault>
-    requires { at < length text.now }
-    ensures { scan_of result ≡ symbol_word text.now at }
-{
-    if let Some(symbol) = long_symbol(&text[at..]) {
-        return Ok(Scanned {
-            word: Word::Symbol(symbol),
-            place: at,
-            end: at + 2,
+impl<'a> WordStart<'a> {
+    // The name or keyword that begins with the letter here.
+    #[tactic(auto, unfolding(crate::specs::Words::name_word, crate::specs::Words::small_letters))]
+    fn letter_word(self) -> Result<Scanned, ReaderFault>
+        requires { begins_name (slice_index self.text.now self.at) ≡ true }
+        ensures { scan_of result
+            ≡ name_word self.entry.text.now self.entry.at (run_end in_word self.entry.text.now self.entry.at) }
+    {
+        let end = run_end(self.text, self.at, |b| {
+            b.is_ascii_alphanumeric() || b == b'_'
         });
+        let letters = small_letters(&self.text[self.at..end]).ok_or(self.too_long())?;
+        // A match and no `map_or`, since a name that is refused ends the function.
+        let word = match Keyword::of(&letters) {
+            Some(keyword) => Word::Keyword(keyword),
+            None => Word::Name(Name::new(&letters).ok_or(self.too_long())?),
+        };
+        Ok(self.until(end, word))
     }
-    match short_symbol(text[at] as char) {
-        Some(symbol) => Ok(Scanned {
-            word: Word::Symbol(symbol),
-            place: at,
-            end: at + 1,
-        }),
-        None => Err(ReaderFault::Byte { place: at }),
+
+    // The text that begins with the quote here.
+    #[tactic(auto, unfolding(crate::specs::Words::text_word))]
+    fn text_word(self) -> Result<Scanned, ReaderFault>
+        ensures { scan_of result ≡ text_word self.entry.text.now self.entry.at }
+    {
+        let close = run_end(self.text, self.at + 1, |b| b != b'\'');
+        if close == self.text.len() {
+            return Err(ReaderFault::Byte { place: self.at });
+        }
+        let odd = run_end(self.text, self.at + 1, |b| matches!(b, b' '..=b'~'));
+        if odd < close {
+            return Err(ReaderFault::Byte { place: odd });
+        }
+        let value = Value::text(&self.text[self.at + 1..close]).ok_or(self.too_long())?;
+        Ok(self.until(close + 1, Word::Literal(value)))
     }
-}
 
-// The name or keyword that begins with the letter at an offset.
-fn letter_word(text: &[u8], at: usize) -> Result<Scanned, ReaderFault>
-    requires { (at < length text.now) × (begins_name (slice_index text.now at) ≡ true) }
-    ensures { scan_of result ≡ name_word text.now at (run_end in_word text.now at) }
-{
-    let end = run_end(text, at, Class::InWord);
-    let word = name_word(text, at, end)?;
-    Ok(Scanned {
-        word,
-        place: at,
-        end,
-    })
-}
-
-// The kind of a word by its first byte.
-fn kind_of(first: char) -> WordKind
-    ensures { result ≡ kind_of first }
-{
-    match first {
-        'a'..='z' | 'A'..='Z' => WordKind::Letters,
-        '0'..='9' => WordKind::Number,
-        '\'' => WordKind::Text,
-        _ => WordKind::Symbol,
+    // The symbol that begins here, the longer where two fit.
+    #[tactic(auto, unfolding(crate::specs::Words::symbol_word))]
+    fn symbol_word(self) -> Result<Scanned, ReaderFault>
+        ensures { scan_of result ≡ symbol_word self.entry.text.now self.entry.at }
+    {
+        if let Some(symbol) = long_symbol(&self.text[self.at..]) {
+            return Ok(self.until(self.at + 2, Word::Symbol(symbol)));
+        }
+        let symbol = short_symbol(self.first() as char).ok_or(ReaderFault::Byte {
+            place: self.at,
+        })?;
+        Ok(self.until(self.at + 1, Word::Symbol(symbol)))
     }
-}
 
-// The word that begins at an offset.
-fn word_at(text: &[u8], at: usize) -> Result<Scanned, ReaderFault>
-    requires { at < length text.now }
-    ensures { scan_of result ≡ word_at text.now at }
-{
-    match kind_of(text[at] as char) {
-        WordKind::Letters => letter_word(text, at),
-        WordKind::Number => number_word(text, at),
-        WordKind::Text => text_word(text, at),
-        WordKind::Symbol => symbol_word(text, at),
+    // The word that begins here. Its first byte says of which kind it is: a match on the character,
+    // since the kinds are ranges of letters and digits.
+    fn word(self) -> Result<Scanned, ReaderFault>
+        ensures { scan_of result ≡ word_at self.entry.text.now self.entry.at }
+    {
+        match self.first() as char {
+            'a'..='z' | 'A'..='Z' => self.letter_word(),
+            '0'..='9' => self.number_word(),
+            '\'' => self.text_word(),
+            _ => self.symbol_word(),
+        }
     }
 }
 
 // The next word of a text from an offset on, behind the blanks; none at its end.
+#[tactic(auto, unfolding(crate::specs::Words::scan_from, crate::specs::Classes::run_end))]
 pub fn scan(text: &[u8], from: usize) -> Result<Option<Scanned>, ReaderFault>
     ensures { next_scan result ≡ scan_from text.now from }
 {
     if from >= text.len() {
         return Ok(None);
     }
-    let at = run_end(text, from, Class::Blank);
-    if at >= text.len() {
-        return Ok(None);
-    }
-    let word = word_at(text, at)?;
-    Ok(Some(word))
+    let at = run_end(text, from, |b| matches!(b, b' ' | b'\t' | b'\n'));
+    WordStart::new(text, at).map(WordStart::word).transpose()
 }

@@ -1,18 +1,6 @@
+pub use values::keyword::Keyword;
 use values::name::Name;
 use values::value::Value;
-
-// The words that belong to the language itself.
-#[derive(Clone, Copy, Debug, PartialEq, Eq)]
-pub enum Keyword {
-    Select,
-    From,
-    Where,
-    Union,
-    Intersection,
-    And,
-    Or,
-    Not,
-}
 
 #[derive(Clone, Copy, Debug, PartialEq, Eq)]
 pub enum Symbol {
@@ -47,25 +35,6 @@ pub struct Scanned {
     pub word: Word,
     pub place: usize,
     pub end: usize,
-}
-
-// The kind of a word, which its first byte says.
-#[derive(Clone, Copy)]
-pub(crate) enum WordKind {
-    Letters,
-    Number,
-    Text,
-    Symbol,
-}
-
-// The bytes that a run may be made of.
-#[derive(Clone, Copy)]
-pub(crate) enum Class {
-    Blank,
-    InWord,
-    Digit,
-    Unquoted,
-    Printable,
 }
 
 // Why a text is no query.

@@ -5,12 +5,31 @@ use std::process::Abort;
 use std::test::Fail;
 use values::value::Value;
 
-// The next word, where there is one.
-fn next(text: &[u8], from: usize) -> Result<Scanned, Fail> {
-    match scan(text, from)? {
-        Some(scanned) => Ok(scanned),
-        None => Err(Fail::new("no word")),
+// A word, with what can be compared of it: of a name and of a literal the bytes.
+#[derive(Clone, Copy, Debug, PartialEq)]
+enum Seen {
+    Keyword(Keyword),
+    Symbol(Symbol),
+    Name([u8; 16]),
+    Literal([u8; 17]),
+}
+
+impl From<Word> for Seen {
+    fn from(word: Word) -> Seen {
+        match word {
+            Word::Keyword(keyword) => Seen::Keyword(keyword),
+            Word::Symbol(symbol) => Seen::Symbol(symbol),
+            Word::Name(name) => Seen::Name(name.to_bytes()),
+            Word::Literal(value) => Seen::Literal(value.to_bytes()),
+        }
     }
+}
+
+// The next word is this one.
+fn found(rt: &impl Abort, text: &[u8], from: usize, wanted: Seen) -> Result<Scanned, Fail> {
+    let scanned = scan(text, from)?.ok_or("no word")?;
+    assert_eq!(rt; Seen::from(scanned.word), wanted);
+    Ok(scanned)
 }
 
 // The next word is this keyword, and it stands here.
@@ -21,15 +40,9 @@ fn keyword(
     wanted: Keyword,
     place: usize,
 ) -> Result<usize, Fail> {
-    let scanned = next(text, from)?;
+    let scanned = found(rt, text, from, Seen::Keyword(wanted))?;
     assert_eq!(rt; scanned.place, place);
-    match scanned.word {
-        Word::Keyword(found) => {
-            assert_eq!(rt; found, wanted);
-            Ok(scanned.end)
-        }
-        _ => Err(Fail::new("no keyword")),
-    }
+    Ok(scanned.end)
 }
 
 fn symbol(
@@ -39,15 +52,9 @@ fn symbol(
     wanted: Symbol,
     end: usize,
 ) -> Result<(), Fail> {
-    let scanned = next(text, from)?;
+    let scanned = found(rt, text, from, Seen::Symbol(wanted))?;
     assert_eq!(rt; scanned.end, end);
-    match scanned.word {
-        Word::Symbol(found) => {
-            assert_eq!(rt; found, wanted);
-            Ok(())
-        },
-        _ => Err(Fail::new("no symbol")),
-    }
+    Ok(())
 }
 
 fn name(
@@ -57,58 +64,21 @@ fn name(
     wanted: [u8; 16],
     end: usize,
 ) -> Result<(), Fail> {
-    let scanned = next(text, from)?;
+    let scanned = found(rt, text, from, Seen::Name(wanted))?;
     assert_eq!(rt; scanned.end, end);
-    match scanned.word {
-        Word::Name(found) => {
-            assert_eq!(rt; found.to_bytes(), wanted);
-            Ok(())
-        },
-        _ => Err(Fail::new("no name")),
-    }
+    Ok(())
 }
 
-fn written(value: Value) -> [u8; 17] {
-    let mut bytes = [0xff; 17];
-    let _ = value.write(&mut bytes);
-    bytes
-}
-
-fn literal(rt: &impl Abort, text: &[u8], wanted: Value, end: usize) -> Result<(), Fail> {
-    let scanned = next(text, 0)?;
+fn literal(rt: &impl Abort, text: &[u8], wanted: Option<Value>, end: usize) -> Result<(), Fail> {
+    let wanted = wanted.ok_or("no value")?;
+    let scanned = found(rt, text, 0, Seen::Literal(wanted.to_bytes()))?;
     assert_eq!(rt; scanned.place, 0);
     assert_eq!(rt; scanned.end, end);
-    match scanned.word {
-        Word::Literal(found) => {
-            assert_eq!(rt; written(found), written(wanted));
-            Ok(())
-        },
-        _ => Err(Fail::new("no literal")),
-    }
+    Ok(())
 }
 
-fn text(bytes: &[u8]) -> Result<Value, Fail> {
-    match Value::text(bytes) {
-        Some(value) => Ok(value),
-        None => Err(Fail::new("no text")),
-    }
-}
-
-fn real(x: f64) -> Result<Value, Fail> {
-    match Value::real(x) {
-        Some(value) => Ok(value),
-        None => Err(Fail::new("no real")),
-    }
-}
-
-fn refused(rt: &impl Abort, text: &[u8], from: usize, wanted: ReaderFault) -> Result<(), Fail> {
-    match scan(text, from) {
-        Ok(_) => Err(Fail::new("not refused")),
-        Err(fault) => {
-            assert_eq!(rt; fault, wanted);
-            Ok(())
-        },
-    }
+fn refused(rt: &impl Abort, text: &[u8], from: usize, wanted: ReaderFault) {
+    assert_eq!(rt; scan(text, from).err(), Some(wanted));
 }
 
 fn ended(rt: &impl Abort, text: &[u8], from: usize) -> Result<(), Fail> {
@@ -143,8 +113,9 @@ fn keywords_and_names(rt: HostRuntime) -> Result<(), Fail> {
     name(&rt, b"A1_b ", 0, *b"a1_b            ", 4)?;
     name(&rt, b"abcdefghijklmnoP", 0, *b"abcdefghijklmnop", 16)?;
     let long = b" abcdefghijklmnopq";
-    refused(&rt, long, 0, ReaderFault::WordTooLong { place: 1 })?;
-    refused(&rt, b"_a", 0, ReaderFault::Byte { place: 0 })
+    refused(&rt, long, 0, ReaderFault::WordTooLong { place: 1 });
+    refused(&rt, b"_a", 0, ReaderFault::Byte { place: 0 });
+    Ok(())
 }
 
 #[test]
@@ -169,66 +140,74 @@ fn the_longer_symbol_is_taken(rt: HostRuntime) -> Result<(), Fail> {
 
 #[test]
 fn integers(rt: HostRuntime) -> Result<(), Fail> {
-    literal(&rt, b"0", Value::integer(0), 1)?;
-    literal(&rt, b"2147483647", Value::integer(2147483647), 10)?;
-    literal(&rt, b"000000000000042", Value::integer(42), 15)?;
-    literal(&rt, b"1.", Value::integer(1), 1)?;
-    literal(&rt, b"1.x", Value::integer(1), 1)?;
-    literal(&rt, b"1from", Value::integer(1), 1)?;
-    refused(&rt, b"2147483648", 0, ReaderFault::WordTooLong { place: 0 })?;
+    literal(&rt, b"0", Some(Value::integer(0)), 1)?;
+    literal(&rt, b"2147483647", Some(Value::integer(2147483647)), 10)?;
+    literal(&rt, b"000000000000042", Some(Value::integer(42)), 15)?;
+    literal(&rt, b"1.", Some(Value::integer(1)), 1)?;
+    literal(&rt, b"1.x", Some(Value::integer(1)), 1)?;
+    literal(&rt, b"1from", Some(Value::integer(1)), 1)?;
+    refused(&rt, b"2147483648", 0, ReaderFault::WordTooLong { place: 0 });
     refused(
         &rt,
         b"0000000000000042",
         0,
         ReaderFault::WordTooLong { place: 0 },
-    )
+    );
+    Ok(())
 }
 
 #[test]
 fn reals(rt: HostRuntime) -> Result<(), Fail> {
-    literal(&rt, b"1.5", real(1.5)?, 3)?;
-    literal(&rt, b"0.1", real(0.1)?, 3)?;
-    literal(&rt, b"00.0", real(0.0)?, 4)?;
-    literal(&rt, b"2147483648.0", real(2147483648.0)?, 12)?;
-    literal(&rt, b"99999999999999.9", real(99999999999999.9)?, 16)?;
-    literal(&rt, b"0.00000000000001", real(0.00000000000001)?, 16)?;
-    literal(&rt, b"1.5.5", real(1.5)?, 3)?;
+    literal(&rt, b"1.5", Value::real(1.5), 3)?;
+    literal(&rt, b"0.1", Value::real(0.1), 3)?;
+    literal(&rt, b"00.0", Value::real(0.0), 4)?;
+    literal(&rt, b"2147483648.0", Value::real(2147483648.0), 12)?;
+    literal(&rt, b"99999999999999.9", Value::real(99999999999999.9), 16)?;
+    literal(&rt, b"0.00000000000001", Value::real(0.00000000000001), 16)?;
+    literal(&rt, b"1.5.5", Value::real(1.5), 3)?;
     refused(
         &rt,
         b"0.000000000000001",
         0,
         ReaderFault::WordTooLong { place: 0 },
-    )?;
+    );
     refused(
         &rt,
         b"999999999999999.9",
         0,
         ReaderFault::WordTooLong { place: 0 },
-    )
+    );
+    Ok(())
 }
 
 #[test]
 fn texts(rt: HostRuntime) -> Result<(), Fail> {
-    literal(&rt, b"''", text(b"")?, 2)?;
-    literal(&rt, b"'a'", text(b"a")?, 3)?;
-    literal(&rt, b"' aB~'c", text(b" aB~")?, 6)?;
-    literal(&rt, b"'0123456789abcdef'", text(b"0123456789abcdef")?, 18)?;
+    literal(&rt, b"''", Value::text(b""), 2)?;
+    literal(&rt, b"'a'", Value::text(b"a"), 3)?;
+    literal(&rt, b"' aB~'c", Value::text(b" aB~"), 6)?;
+    literal(
+        &rt,
+        b"'0123456789abcdef'",
+        Value::text(b"0123456789abcdef"),
+        18,
+    )?;
     let long = b"'0123456789abcdefg'";
-    refused(&rt, long, 0, ReaderFault::WordTooLong { place: 0 })?;
-    refused(&rt, b" 'abc", 0, ReaderFault::Byte { place: 1 })?;
-    refused(&rt, b"'a\nb", 0, ReaderFault::Byte { place: 0 })?;
+    refused(&rt, long, 0, ReaderFault::WordTooLong { place: 0 });
+    refused(&rt, b" 'abc", 0, ReaderFault::Byte { place: 1 });
+    refused(&rt, b"'a\nb", 0, ReaderFault::Byte { place: 0 });
     refused(
         &rt,
         b"'ab\n0123456789abcdef\t'",
         0,
         ReaderFault::Byte { place: 3 },
-    )
+    );
+    Ok(())
 }
 
 #[test]
-fn bytes_that_begin_no_word(rt: HostRuntime) -> Result<(), Fail> {
+fn bytes_that_begin_no_word(rt: HostRuntime) {
     for b in [0u8, 13, 127, 255, b'"', b';', b'_'] {
-        refused(&rt, &[b' ', b], 0, ReaderFault::Byte { place: 1 })?;
+        refused(&rt, &[b' ', b], 0, ReaderFault::Byte { place: 1 });
     }
     for b in [0u8, 9, 10, 13, 127, 255] {
         refused(
@@ -236,7 +215,6 @@ fn bytes_that_begin_no_word(rt: HostRuntime) -> Result<(), Fail> {
             &[b'\'', b'a', b, b'\''],
             0,
             ReaderFault::Byte { place: 2 },
-        )?;
+        );
     }
-    Ok(())
 }

@@ -9,7 +9,8 @@ use Rattle.stores.specs.Test.{test_distinct}
 use Rattle.stores.specs.declared.kept.KeptTable.{KeptTable}
 use Rattle.stores.specs.declared.kept_tables.KeptTables.{KeptTables}
 use Rattle.stores.proofs.PlacesChanged.{distinct_filled, distinct_freed}
-use Rattle.stores.specs.Tested.{distinct_from, distinct_to}
+use Rattle.stores.specs.Tested.{distinct_from}
+use Rattle.stores.proofs.TestMet.{distinct_to}
 
 pub holding_set : (os : List (Option KeptTable)) (i : ℕ) (o : Option KeptTable) → holding (set os i o) ≡ set (holding os) i (option_map kept_as o)
 unfolding holding

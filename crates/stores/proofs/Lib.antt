@@ -2,6 +2,9 @@ pub mod Agreeing
 pub mod AgreeingFirsts
 pub mod AgreeingKept
 pub mod AgreeingRows
+pub mod Asked
+pub mod ColumnsCompared
+pub mod Exits
 pub mod JoinedRows
 pub mod KeptAsked
 pub mod KeptChanged
@@ -9,8 +12,11 @@ pub mod KeptFound
 pub mod Loaded
 pub mod NamesInOrder
 pub mod Offering
+pub mod PairFound
 pub mod PairLaws
 pub mod Placed
 pub mod PlacesChanged
+pub mod SeriesAsked
 pub mod ShelfCalls
 pub mod Shelving
+pub mod TestMet

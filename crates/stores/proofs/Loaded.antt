@@ -6,7 +6,7 @@ use Rattle.batches.specs.Layouts.{told_by}
 use Rattle.batches.specs.Reading.{reading, tables}
 use Rattle.batches.specs.declared.layout.Catalog.{Catalog}
 use Rattle.stores.specs.Test.{is_lawful}
-use Rattle.stores.specs.Tested.{lawful_from_described, test_from_lawful}
+use Rattle.stores.proofs.TestMet.{lawful_from_described, test_from_lawful}
 
 -- ds is the copy of the batch that the store keeps
 pub loaded_lawful : (bs ds : List ℕ) (c : Catalog) → AllByRecursion (λ b. b < 256) bs → tables (told_by bs c) ≡ reading bs → ds ≡ bs → is_lawful (told_by ds c) ≡ true

@@ -1,5 +1,5 @@
 -- What is offered to a shelf. Assumes nothing.
-use Rattle.std.proofs.Common.{◌≡◌, ℕ, ◌<◌, ◌≤◌, Bool, true, false, cond, leb, List, [], ◌∷◌, length, take, IsErrAnd, Ok, Err, Result, sym, refl, ap, ◌∙◌, subst, arith}
+use Rattle.std.proofs.Common.{◌≡◌, ℕ, ◌<◌, ◌≤◌, Bool, true, false, cond, leb, List, [], ◌∷◌, length, take, sym, refl, ap, ◌∙◌, subst, arith}
 use Rattle.std.proofs.lemmas.Bool.{le-leb, lt-leb}
 use Rattle.std.specs.List.{AllByRecursion}
 use Rattle.batches.proofs.Described.{tables_described}
@@ -12,13 +12,10 @@ use Rattle.values.specs.Names.{lawful_name}
 use Rattle.values.specs.declared.name.Name.{Name}
 use Rattle.stores.specs.Held.{first_table, held_as}
 use Rattle.stores.specs.Meaning.{Lawful}
-use Rattle.stores.specs.Refusals.{Refusal, by_shelf, by_store, shelf_refusal, store_refusal}
-use Rattle.stores.specs.Shelved.{Outcome, done, refuses, name_offered, offered, outcome, place_length, renamed, table_offered}
+use Rattle.stores.specs.Refusals.{Refusal, by_shelf, by_store}
+use Rattle.stores.specs.Shelved.{Outcome, done, refuses, name_offered, offered, place_length, renamed, table_offered}
 use Rattle.stores.specs.Test.{is_lawful}
-use Rattle.stores.specs.declared.faults.ShelfFault.{ShelfFault}
-use Rattle.stores.specs.declared.faults.ShelfFault.TheVariants.{Store}
-use Rattle.stores.specs.declared.faults.StoreFault.{StoreFault}
-use Rattle.stores.specs.Tested.{lawful_from_described, test_from_lawful}
+use Rattle.stores.proofs.TestMet.{lawful_from_described, test_from_lawful}
 
 -- a batch's one table
 pub one_offered : (ts : Told) (r : Reading) → tables ts ≡ r → length ts ≡ 1 → done ts ≡ table_offered r
@@ -62,11 +59,6 @@ held_lawful bs n ts b h e =
     by [] l k = absurd (omega arith)
     by (t ∷ ts) l k =
         test_from_lawful _ (record { named = (h, tt); headed = (l.headed.0, tt); filled = (l.filled.0, tt); distinct = (tt, tt) })
-
--- a store's fault that a shelf's fault carries
-pub carried : {X Y : Type 0} (g : X → Y) (r : Result X ShelfFault) (f : StoreFault) → IsErrAnd r (λ e. e ≡ Store f) → outcome g shelf_refusal r ≡ refuses (store_refusal f)
-carried g (Ok x) f h = absurd h
-carried g (Err e) f h = ap (λ (x : ShelfFault). refuses (shelf_refusal x)) h
 
 pub bad_name : (n bs : List ℕ) (r : Refusal) → refuses r ≡ name_offered n → refuses r ≡ offered n bs
 unfolding offered

@@ -1,5 +1,5 @@
 -- The calls that change a shelf. Assumes nothing.
-use Rattle.std.proofs.Common.{◌≡◌, ℕ, ◌<◌, Bool, true, false, cond, List, [], ◌∷◌, is_some, IsErrAnd, Some, None, Ok, Err, Option, Result, sym, refl, ap, ◌∙◌, arith}
+use Rattle.std.proofs.Common.{◌≡◌, ℕ, ◌<◌, Bool, true, false, cond, List, [], ◌∷◌, is_some, Some, None, Option, sym, refl, ap, ◌∙◌, arith}
 use Rattle.batches.specs.Asked.{chained}
 use Rattle.batches.specs.Tables.{Table, Named, Told, Apart, Distinct}
 use Rattle.std.proofs.lemmas.Bool.{both_ways}
@@ -7,9 +7,8 @@ use Rattle.std.specs.List.{AllByRecursion}
 use Rattle.values.specs.Names.{lawful_name}
 use Rattle.stores.specs.Meaning.{lookup}
 use Rattle.stores.specs.Places.{Places, lowest_free, first_place, in_places, place_holding}
-use Rattle.stores.specs.Refusals.{Refusal, by_shelf, shelf_refusal}
-use Rattle.stores.specs.Shelved.{done, refuses, answered, dropping, freeing, holds_in, keeping, keep_on, offered, placing, shelf_number, shelf_stands, shelf_told}
-use Rattle.stores.specs.declared.faults.ShelfFault.{ShelfFault}
+use Rattle.stores.specs.Refusals.{Refusal, by_shelf}
+use Rattle.stores.specs.Shelved.{done, refuses, dropping, freeing, holds_in, keeping, keep_on, offered, placing, shelf_number, shelf_stands, shelf_told}
 use Rattle.stores.specs.declared.kept_tables.KeptTables.{KeptTables}
 use Rattle.stores.proofs.KeptFound.{holds_eight}
 use Rattle.stores.proofs.NamesInOrder.{number_told}
@@ -41,10 +40,6 @@ drop_not ps n e = ap freeing e
 pub drop_done : (ps : Places) (n : List ℕ) (i : ℕ) → place_holding ps n ≡ Some i → dropping ps n ≡ done i
 unfolding dropping
 drop_done ps n i e = ap freeing e
-
-pub answered_err : {X : Type 0} (r : Result X ShelfFault) (f : ShelfFault) → IsErrAnd r (λ e. e ≡ f) → answered shelf_refusal r ≡ Some (shelf_refusal f)
-answered_err (Ok x) f h = absurd h
-answered_err (Err e) f h = ap (λ (x : ShelfFault). Some (shelf_refusal x)) h
 
 module _ (ts : Told) (ps : Places) (n bs : List ℕ) where
   pub keep_refused : (r : Refusal) → refuses r ≡ offered n bs → keep_on ts ps n bs ≡ refuses r

@@ -5,10 +5,10 @@ use Rattle.std.proofs.lemmas.Slice.Eq.{bytes_eq-Decides}
 use Rattle.std.specs.List.{slice_get}
 use Rattle.std.specs.Option.{option_map}
 use Rattle.std.specs.Str.{bytes_eq}
-use Rattle.batches.specs.Asked.{chained, row_count, cell_in, count_asked, cell_asked}
+use Rattle.batches.specs.Asked.{chained}
 use Rattle.batches.specs.Layouts.{place_of}
 use Rattle.batches.specs.Tables.{Table, Told}
-use Rattle.stores.specs.Meaning.{column_of, count_of, lookup, value_of}
+use Rattle.stores.specs.Meaning.{lookup}
 
 abbrev pub table_at : Told → ℕ → Option Table
 table_at ts k = option_map (λ t. t.table) (slice_get ts k)
@@ -62,16 +62,3 @@ place_distinct (t ∷ ts) m n k p q =
         let z : suc j ≡ suc i = cc in
         let w : j ≡ i = omega arith in
         ih i x (y ∙ ap Some w)
-
--- what is asked of a table by its number, and of the table itself
-pub column_asked_lem : (ts : Told) (k i : ℕ) → chained (slice_get ts k) (λ n. slice_get n.table.headings i) ≡ column_of (table_at ts k) i
-unfolding column_of
-column_asked_lem ts k i = sym (chained_mapped (λ t. t.table) (slice_get ts k) (λ t. slice_get t.headings i))
-
-pub count_asked_lem : (ts : Told) (k : ℕ) → count_asked ts k ≡ count_of (table_at ts k)
-unfolding count_asked count_of
-count_asked_lem ts k = sym (chained_mapped (λ t. t.table) (slice_get ts k) (λ t. row_count t.body))
-
-pub cell_asked_lem : (ts : Told) (k r c : ℕ) → cell_asked ts k r c ≡ value_of (table_at ts k) r c
-unfolding cell_asked value_of
-cell_asked_lem ts k r c = sym (chained_mapped (λ t. t.table) (slice_get ts k) (λ t. cell_in t.body r c))

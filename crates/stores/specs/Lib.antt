@@ -1,4 +1,5 @@
 pub mod Meaning
+pub mod Names
 pub mod Test
 pub mod Refusals
 pub mod Batched

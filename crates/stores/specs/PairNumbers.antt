@@ -1,7 +1,6 @@
 -- The numbers of a pair's tables. Assumes nothing.
 use Rattle.std.specs.Prelude.{◌≡◌, Bool, true, false, cond, is_some, Some, None, Option}
-use Rattle.std.proofs.Math.Path.{refl, ap, ap₂}
-use Rattle.std.proofs.Common.{◌∙◌}
+use Rattle.std.proofs.Math.Path.{refl, ap₂}
 use Rattle.std.proofs.lemmas.Bool.{both_ways}
 use Rattle.batches.specs.Asked.{chained}
 use Rattle.batches.specs.Tables.{Table}
@@ -10,24 +9,6 @@ use Rattle.stores.specs.declared.pair.PairNumber.{PairNumber}
 use Rattle.stores.specs.declared.pair.PairNumber.TheVariants.{First, Second, Both}
 
 module _ {M N : Type 0} (f : M → Option Table) (g : N → Option Table) where
-  -- what a number of each kind stands for
-  pub stands_first : (n : PairNumber M N) (k : M) → n ≡ First k → pair_stands f g n ≡ f k
-  unfolding pair_stands
-  stands_first n k e = ap (pair_stands f g) e
-
-  pub stands_second : (n : PairNumber M N) (l : N) → n ≡ Second l → pair_stands f g n ≡ g l
-  unfolding pair_stands
-  stands_second n l e = ap (pair_stands f g) e
-
-  pub stands_both : (n : PairNumber M N) (k : M) (l : N) → n ≡ Both k l → pair_stands f g n ≡ join_tables (f k) (g l)
-  unfolding pair_stands
-  stands_both n k l e = ap (pair_stands f g) e
-
-  -- a pair's number where both stores have one
-  pub number_of_both : (a : Option M) (b : Option N) (k : M) (l : N) (t : Bool) → a ≡ Some k → b ≡ Some l → same_columns (f k) (g l) ≡ t → pair_number f g a b ≡ Some (cond t (Both k l) (First k))
-  unfolding pair_number
-  number_of_both a b k l t p q e = ap₂ (pair_number f g) p q ∙ ap (λ (u : Bool). Some (cond u (Both k l) (First k))) e
-
   -- the table of a name that both stores tell
   both_named : (k : M) (l : N) (x y : Option Table) → f k ≡ x → g l ≡ y → is_some x ≡ true → pair_stands f g (cond (same_columns x y) (Both k l) (First k)) ≡ paired_table x y
   unfolding pair_stands paired_table same_columns join_tables with_other

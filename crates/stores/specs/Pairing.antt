@@ -7,10 +7,9 @@ use Rattle.std.proofs.lemmas.Bool.{both_ways, cond_both, leb-true}
 use Rattle.std.specs.List.{AllByRecursion}
 use Rattle.std.specs.Str.{bytes_eq}
 use Rattle.values.specs.Names.{lawful_name}
-use Rattle.batches.specs.Asked.{chained}
 use Rattle.batches.specs.Tables.{Heading, Body, rows, too_long, Table, Named, Told, RowFits, LawfulHeadings, Apart, Distinct}
 use Rattle.stores.specs.Meaning.{Lawful, LawfulBody, lookup, most_rows}
-use Rattle.stores.specs.Paired.{Narrow, beside, join_body, join_table, paired, paired_table, same_headings, untold, with_other}
+use Rattle.stores.specs.Paired.{beside, join_body, join_table, paired, paired_table, same_headings, untold, with_other}
 use Rattle.stores.specs.Headings.{same_headings_decides}
 
 -- a table of the front part, or else what the rest tells
@@ -55,15 +54,6 @@ unfolding lookup
 lookup_all P [] n h = tt
 lookup_all P (t ∷ ts) n h =
     cond_both (bytes_eq n t.name) (Some t.table) (lookup ts n) (λ o. IfSome o P) (λ e. h.0) (λ e. lookup_all P ts n h.1)
-
--- the table that a name's number stands for has at most eight columns
-pub number_narrow : {M : Type 0} (ts : Told) (n : List ℕ) (f : M → Option Table) (a : Option M) (k : M) → Lawful ts → chained a f ≡ lookup ts n → ((j : M) → a ≡ Some j → is_some (f j) ≡ true) → a ≡ Some k → Narrow (f k)
-number_narrow ts n f a k h named known e =
-    go (f k) (subst (λ (o : Option Table). IfSome o (λ t. LawfulHeadings t.headings)) (sym (ap (λ o. chained o f) (sym e) ∙ named)) (lookup_all (λ t. LawfulHeadings t.headings) ts n h.headed)) (known k e)
-  where
-    go : (o : Option Table) → IfSome o (λ t. LawfulHeadings t.headings) → is_some o ≡ true → Narrow o
-    go None l i = both_ways false refl i
-    go (Some t) l i = l.few
 
 -- the names that are told can be looked up
 names_found : (ts : Told) → AllByRecursion (λ t. is_some (lookup ts t.name) ≡ true) ts

@@ -1,5 +1,5 @@
 -- The numbers, layers and places of the stores' refusals. Assumes nothing.
-use Rattle.std.specs.Prelude.{◌≡◌, ℕ, List, Ok, Err, Result}
+use Rattle.std.specs.Prelude.{◌≡◌, ℕ, List, Ok, Err, Result, codes}
 use Rattle.batches.specs.Reading.{tables, refused, reading}
 use Rattle.batches.specs.Tables.{Told}
 use Rattle.stores.specs.declared.faults.Layer as part
@@ -22,6 +22,14 @@ layer_named CheckerPart = checker_layer
 layer_named RunnerPart = runner_layer
 layer_named StorePart = store_layer
 layer_named ShelfPart = shelf_layer
+
+-- the word for it
+abbrev pub layer_word : part.Layer → List ℕ
+layer_word ReaderPart = codes "reader"
+layer_word CheckerPart = codes "checker"
+layer_word RunnerPart = codes "runner"
+layer_word StorePart = codes "store"
+layer_word ShelfPart = codes "shelf"
 
 -- a refusal: its layer, its number and its place
 pub record Refusal : Type 0 where

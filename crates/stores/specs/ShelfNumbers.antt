@@ -5,14 +5,15 @@ use Rattle.batches.specs.Asked.{chained}
 use Rattle.batches.specs.Tables.{Table, Told}
 use Rattle.std.proofs.lemmas.Bool.{both_ways}
 use Rattle.stores.specs.Kept.{holding, kept_as}
-use Rattle.stores.specs.Meaning.{lookup}
+use Rattle.stores.specs.Meaning.{Lawful, lookup}
 use Rattle.stores.specs.Places.{Places, in_places, place_holding, table_in}
 use Rattle.stores.specs.Shelved.{shelf_number, shelf_stands, shelf_told}
 use Rattle.stores.specs.declared.kept.KeptTable.{KeptTable}
 use Rattle.stores.specs.declared.shelf.ShelfNumber.{ShelfNumber}
 use Rattle.stores.specs.declared.shelf.ShelfNumber.TheVariants.{Below, Place}
 use Rattle.stores.specs.Placed.{Each, each_lawful, either, lookup_new, holding_distinct, holding_known, holding_stands}
-use Rattle.stores.specs.Tested.{lawful_from_test}
+use Rattle.stores.specs.Tested.{distinct_from, lawful_from_test}
+use Rattle.stores.specs.Test.{test_distinct}
 
 -- each kept table is lawful by itself
 pub each_held : (os : List (Option KeptTable)) → Each (in_places (holding os))
@@ -23,6 +24,12 @@ each_held (Some k ∷ os) =
     let e = each_lawful (kept_as k ∷ []) (lawful_from_test (kept_as k ∷ []) k.lawful) in
     let r = each_held os in
     record { named = (e.named.0, r.named); headed = (e.headed.0, r.headed); filled = (e.filled.0, r.filled) }
+
+-- and no two have one name
+pub kept_lawful : (os : List (Option KeptTable)) → test_distinct (in_places (holding os)) ≡ true → Lawful (in_places (holding os))
+kept_lawful os h =
+    let e = each_held os in
+    record { named = e.named; headed = e.headed; filled = e.filled; distinct = distinct_from (in_places (holding os)) h }
 
 -- what is told under a name: below, or else in the places
 pub shelf_lookup : (ts : Told) (ps : Places) (n : List ℕ) → lookup (shelf_told ts ps) n ≡ either (lookup ts n) (lookup (in_places ps) n)

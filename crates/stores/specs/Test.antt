@@ -1,5 +1,6 @@
 -- A test whether tables are lawful, so that a store can keep the fact. Assumes nothing.
 use Rattle.std.specs.Prelude.{ℕ, Bool, true, false, not, ◌&&◌, List, [], ◌∷◌, length, nat_le}
+use Rattle.std.specs.List.{list_all}
 use Rattle.std.specs.Str.{bytes_eq}
 use Rattle.values.specs.Cells.{Cell, lawful_cell}
 use Rattle.values.specs.Codes.{fits}
@@ -9,8 +10,7 @@ use Rattle.stores.specs.Meaning.{most_rows}
 
 -- a test holds of each element
 abbrev pub every : {X : Type 0} → (X → Bool) → List X → Bool
-every p [] = true
-every p (x ∷ xs) = p x && every p xs
+every = list_all
 
 abbrev pub test_row : List Heading → List Cell → Bool
 test_row [] [] = true

@@ -5,7 +5,7 @@ ghost use Rattle.stores.specs.Tested.{lawful_from_test};
 ghost use Rattle.stores.specs.Found.{place_stands, place_known, place_distinct};
 
 use crate::batch_store::BatchStore;
-use crate::faults::{LoadError, StoreFault};
+use crate::faults::LoadError;
 use crate::store::{Listed, Store};
 use batches::checking::check;
 use batches::columns::Column;
@@ -16,6 +16,7 @@ use values::value::Value;
 
 impl BatchStore {
     // A store that tells nothing yet.
+    #[tactic(auto, unfolding(crate::specs::Batched::batch_told, crate::specs::Test::is_lawful))]
     pub fn new(heap: Global) -> BatchStore
         ensures { batch_told result ≡ [] }
     {
@@ -28,18 +29,12 @@ impl BatchStore {
 
     // Tells the tables of the batch in place of what was told before. A batch that is refused, or
     // for which there is no memory, changes nothing.
+    #[tactic(auto, unfolding(crate::specs::Batched::batch_told))]
     pub fn load(&mut self, heap: Global, batch: &[u8]) -> Result<(), LoadError>
         ensures { Loads batch.now (batch_told self.old) (batch_told self.new) result }
     {
-        let catalog = match check(batch) {
-            Ok(catalog) => catalog,
-            Err(fault) => {
-                return Err(LoadError::Refused(StoreFault::Batch { place: fault.place }));
-            }
-        };
-        let Ok(bytes) = Vec::from_slice(heap, batch) else {
-            return Err(LoadError::OutOfMemory);
-        };
+        let catalog = check(batch)?;
+        let bytes = Vec::from_slice(heap, batch)?;
         *self = BatchStore { bytes, catalog };
         Ok(())
     }
@@ -62,24 +57,29 @@ impl Store for BatchStore {
 
     ghost distinct = { λ s m n k p q. place_distinct (batch_told s) m n k p q };
 
+    #[tactic(auto, unfolding(crate::specs::Batched::batch_told))]
     fn find(&self, name: Name) -> Option<usize> {
         self.catalog.find(&self.bytes, name)
     }
 
+    #[tactic(auto, using(crate::proofs::Asked::column_told), unfolding(crate::specs::Batched::batch_told))]
     fn column(&self, table: usize, i: usize) -> Option<Column> {
         self.catalog.column(&self.bytes, table, i)
     }
 
+    #[tactic(auto, using(crate::proofs::Asked::count_asked_lem), unfolding(crate::specs::Batched::batch_told))]
     fn count(&self, table: usize) -> Option<usize> {
         self.catalog.rows(table)
     }
 
+    #[tactic(auto, using(crate::proofs::Asked::cell_asked_lem), unfolding(crate::specs::Batched::batch_told))]
     fn cell(&self, table: usize, row: usize, column: usize) -> Option<Value> {
         self.catalog.cell(&self.bytes, table, row, column)
     }
 }
 
 impl Listed for BatchStore {
+    #[tactic(auto, using(crate::proofs::Asked::name_asked_told), unfolding(crate::specs::Batched::batch_told))]
     fn name(&self, place: usize) -> Option<Name> {
         self.catalog.name(&self.bytes, place)
     }

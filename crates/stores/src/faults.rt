@@ -1,6 +1,12 @@
-ghost use Rattle.std.specs.Prelude.{◌≡◌};
-ghost use Rattle.stores.specs.Refusals.{layer_named, shelf_refusal, store_refusal};
+ghost use Rattle.std.specs.Prelude.{◌≡◌, Some};
+ghost use Rattle.stores.specs.Refusals.{Refusal, layer_named, layer_word, shelf_refusal, store_refusal};
+ghost use Rattle.stores.specs.declared.faults.LoadError.TheVariants.{OutOfMemory, Refused};
 ghost use Rattle.stores.specs.declared.faults.ShelfFault.TheVariants.{Store};
+ghost use Rattle.stores.specs.declared.faults.StoreFault.TheVariants.{Batch};
+
+use batches::layout::BatchFault;
+use std::alloc::AllocError;
+use std::fmt;
 
 // The part of the program that refuses.
 #[derive(Clone, Copy, Debug, PartialEq, Eq)]
@@ -10,6 +16,21 @@ pub enum Layer {
     Runner,
     Store,
     Shelf,
+}
+
+// The layer's word.
+impl fmt::Display for Layer {
+    ghost output = { λ layer. Some (layer_word layer) };
+
+    fn fmt<W: fmt::Write>(&self, f: &mut fmt::Formatter<W>) -> fmt::Result {
+        f.write_str(match self {
+            Self::Reader => "reader",
+            Self::Checker => "checker",
+            Self::Runner => "runner",
+            Self::Store => "store",
+            Self::Shelf => "shelf",
+        })
+    }
 }
 
 // Why a store refuses what it is given.
@@ -41,27 +62,39 @@ pub enum ShelfFault {
     NameNotKept,
 }
 
-impl StoreFault {
-    pub fn layer(self) -> Layer
-        ensures { layer_named result ≡ (store_refusal self).layer }
-    {
+// What says why something is refused: a fault of any layer.
+pub trait Fault {
+    // The refusal, whole.
+    ghost refusal: { Self → Refusal };
+
+    // The layer that refuses.
+    fn layer(self) -> Layer
+        ensures { layer_named result ≡ (refusal self).layer };
+
+    // The number under which the refusal is known. It is a number, since it is printed.
+    fn number(self) -> u32
+        ensures { result ≡ (refusal self).code };
+
+    // Where in what was given, and 0 where there is no such place.
+    fn place(self) -> usize
+        ensures { result ≡ (refusal self).place };
+}
+
+impl Fault for StoreFault {
+    ghost refusal = { store_refusal };
+
+    fn layer(self) -> Layer {
         Layer::Store
     }
 
-    // The number under which the refusal is known.
-    pub fn number(self) -> u32
-        ensures { result ≡ (store_refusal self).code }
-    {
+    fn number(self) -> u32 {
         match self {
             StoreFault::Batch { place: _ } => 7,
             StoreFault::Name => 8,
         }
     }
 
-    // Where in what was given, and 0 where there is no such place.
-    pub fn place(self) -> usize
-        ensures { result ≡ (store_refusal self).place }
-    {
+    fn place(self) -> usize {
         match self {
             StoreFault::Batch { place } => place,
             StoreFault::Name => 0,
@@ -69,20 +102,11 @@ impl StoreFault {
     }
 }
 
-// A store's fault inside a shelf's, whole.
-impl From<StoreFault> for ShelfFault {
-    ghost from_gives = { λ f r. r ≡ Store f };
+// A store's fault inside a shelf's keeps its layer, its number and its place.
+impl Fault for ShelfFault {
+    ghost refusal = { shelf_refusal };
 
-    fn from(fault: StoreFault) -> ShelfFault {
-        ShelfFault::Store(fault)
-    }
-}
-
-impl ShelfFault {
-    // A store's fault keeps its own layer.
-    pub fn layer(self) -> Layer
-        ensures { layer_named result ≡ (shelf_refusal self).layer }
-    {
+    fn layer(self) -> Layer {
         match self {
             ShelfFault::Store(fault) => fault.layer(),
             ShelfFault::BatchTooLong
@@ -92,10 +116,7 @@ impl ShelfFault {
         }
     }
 
-    // The number under which the refusal is known.
-    pub fn number(self) -> u32
-        ensures { result ≡ (shelf_refusal self).code }
-    {
+    fn number(self) -> u32 {
         match self {
             ShelfFault::Store(fault) => fault.number(),
             ShelfFault::BatchTooLong => 9,
@@ -105,10 +126,7 @@ impl ShelfFault {
         }
     }
 
-    // Where in the batch that was given, and 0 where there is no such place.
-    pub fn place(self) -> usize
-        ensures { result ≡ (shelf_refusal self).place }
-    {
+    fn place(self) -> usize {
         match self {
             ShelfFault::Store(fault) => fault.place(),
             ShelfFault::BatchTooLong
@@ -116,5 +134,39 @@ impl ShelfFault {
             | ShelfFault::NoPlaceFree
             | ShelfFault::NameNotKept => 0,
         }
+    }
+}
+
+// A batch that is refused, at the place that its check gives.
+impl From<BatchFault> for StoreFault {
+    ghost from_gives = { λ f r. r ≡ Batch f.place };
+
+    fn from(fault: BatchFault) -> StoreFault {
+        StoreFault::Batch { place: fault.place }
+    }
+}
+
+impl From<BatchFault> for LoadError {
+    ghost from_gives = { λ f r. r ≡ Refused (Batch f.place) };
+
+    fn from(fault: BatchFault) -> LoadError {
+        LoadError::Refused(StoreFault::from(fault))
+    }
+}
+
+impl From<AllocError> for LoadError {
+    ghost from_gives = { λ _ r. r ≡ OutOfMemory };
+
+    fn from(_error: AllocError) -> LoadError {
+        LoadError::OutOfMemory
+    }
+}
+
+// A store's fault inside a shelf's, whole.
+impl From<StoreFault> for ShelfFault {
+    ghost from_gives = { λ f r. r ≡ Store f };
+
+    fn from(fault: StoreFault) -> ShelfFault {
+        ShelfFault::Store(fault)
     }
 }

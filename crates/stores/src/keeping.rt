@@ -3,13 +3,15 @@ ghost use Rattle.std.specs.Option.{option_map};
 ghost use Rattle.batches.specs.Columns.{heading_of};
 ghost use Rattle.stores.specs.Kept.{kept_as};
 ghost use Rattle.stores.specs.Meaning.{column_of, count_of, value_of};
-ghost use Rattle.stores.specs.Places.{lowest_free, place_holding, table_in};
+ghost use Rattle.stores.specs.Placed.{holding_distinct, holding_known, holding_stands};
+ghost use Rattle.stores.specs.Places.{in_places, lowest_free, place_holding, table_in};
+ghost use Rattle.stores.specs.ShelfNumbers.{kept_lawful};
 ghost use Rattle.stores.specs.Shelved.{all_free, holds_in};
 ghost use Rattle.values.specs.Cells.{cell_of};
-ghost use Rattle.values.specs.Named.{name_bytes};
 
 use crate::kept::KeptTable;
 use crate::kept_tables::KeptTables;
+use crate::store::Store;
 use batches::columns::Column;
 use values::name::Name;
 use values::value::Value;
@@ -22,18 +24,24 @@ impl KeptTable {
         &self.bytes[0..self.length]
     }
 
+    // These three are not shared with a batch store's. They are the same questions of a catalog, but
+    // of bytes in an array: a type over both holders would have to carry the invariants of both, and
+    // would be no plainer.
+    #[tactic(auto, using(crate::proofs::KeptAsked::first_column), unfolding(crate::specs::Held::held_as))]
     fn column(&self, i: usize) -> Option<Column>
         ensures { option_map heading_of result ≡ column_of (Some (kept_as self.now).table) i }
     {
         self.catalog.column(self.batch(), 0, i)
     }
 
+    #[tactic(auto, using(crate::proofs::KeptAsked::first_count), unfolding(crate::specs::Held::held_as))]
     fn count(&self) -> Option<usize>
         ensures { result ≡ count_of (Some (kept_as self.now).table) }
     {
         self.catalog.rows(0)
     }
 
+    #[tactic(auto, using(crate::proofs::KeptAsked::first_cell), unfolding(crate::specs::Held::held_as))]
     fn cell(&self, row: usize, column: usize) -> Option<Value>
         ensures { option_map cell_of result ≡ value_of (Some (kept_as self.now).table) row column }
     {
@@ -50,6 +58,7 @@ impl KeptTables {
     }
 
     // Puts a table into a place. No place may hold a table of its name.
+    #[tactic(auto, using(crate::proofs::KeptChanged::filled_apart, crate::proofs::KeptChanged::holding_set, crate::proofs::KeptChanged::still_eight))]
     pub(crate) fn put(&mut self, place: usize, table: KeptTable)
         requires { (place < 8) × (place_holding (holds_in self.old) (kept_as table).name ≡ None) }
         ensures { holds_in self.new ≡ slice_set (holds_in self.old) place (Some (kept_as table)) }
@@ -58,6 +67,7 @@ impl KeptTables {
     }
 
     // Frees a place.
+    #[tactic(auto, using(crate::proofs::KeptChanged::freed_apart, crate::proofs::KeptChanged::holding_set, crate::proofs::KeptChanged::still_eight))]
     pub(crate) fn free(&mut self, place: usize)
         requires { place < 8 }
         ensures { holds_in self.new ≡ slice_set (holds_in self.old) place None }
@@ -65,63 +75,57 @@ impl KeptTables {
         self.places[place] = None;
     }
 
-    // The place of the table with a name.
-    pub(crate) fn place_named(&self, name: Name) -> Option<usize>
-        ensures { result ≡ place_holding (holds_in self.now) (name_bytes name) }
-    {
-        for i in 0..8 {
-            if let Some(table) = &self.places[i] {
-                if name == table.name {
-                    return Some(i);
-                }
-            }
-        }
-        None
-    }
-
     // The lowest place that is free.
     pub(crate) fn free_place(&self) -> Option<usize>
         ensures { result ≡ lowest_free (holds_in self.now) }
     {
-        for place in 0..8 {
-            if self.places[place].is_none() {
-                return Some(place);
-            }
-        }
-        None
+        self.places.iter().position(|place| place.is_none())
     }
 
     // The table in a place.
     fn table(&self, place: usize) -> Option<&KeptTable>
         ensures { option_map (λ t. (kept_as t.now).table) result ≡ table_in (holds_in self.now) place }
     {
-        if place >= 8 {
-            return None;
-        }
-        match &self.places[place] {
-            Some(table) => Some(table),
-            None => None,
-        }
+        self.places.get(place)?.as_ref()
+    }
+}
+
+// A kept table's number is its place.
+impl Store for KeptTables {
+    type Number = usize;
+
+    ghost told = { λ s. in_places (holds_in s) };
+
+    ghost number = { λ s n. place_holding (holds_in s) n };
+
+    ghost stands = { λ s k. table_in (holds_in s) k };
+
+    ghost lawful = { λ s. kept_lawful s.places s.apart };
+
+    ghost named = { λ s n. holding_stands (holds_in s) n };
+
+    ghost known = { λ s n k p. holding_known (holds_in s) n k p };
+
+    ghost distinct = { λ s m n k p q. holding_distinct (holds_in s) m n k p q };
+
+    fn find(&self, name: Name) -> Option<usize> {
+        self.places
+            .iter()
+            .position(|place| matches!(place, Some(table) if name == table.name))
     }
 
-    pub(crate) fn column(&self, place: usize, i: usize) -> Option<Column>
-        ensures { option_map heading_of result ≡ column_of (table_in (holds_in self.now) place) i }
-    {
-        let table = self.table(place)?;
-        table.column(i)
+    #[tactic(auto, unfolding(crate::specs::Meaning::column_of))]
+    fn column(&self, table: usize, i: usize) -> Option<Column> {
+        self.table(table)?.column(i)
     }
 
-    pub(crate) fn count(&self, place: usize) -> Option<usize>
-        ensures { result ≡ count_of (table_in (holds_in self.now) place) }
-    {
-        let table = self.table(place)?;
-        table.count()
+    #[tactic(auto, unfolding(crate::specs::Meaning::count_of))]
+    fn count(&self, table: usize) -> Option<usize> {
+        self.table(table)?.count()
     }
 
-    pub(crate) fn cell(&self, place: usize, row: usize, column: usize) -> Option<Value>
-        ensures { option_map cell_of result ≡ value_of (table_in (holds_in self.now) place) row column }
-    {
-        let table = self.table(place)?;
-        table.cell(row, column)
+    #[tactic(auto, unfolding(crate::specs::Meaning::value_of))]
+    fn cell(&self, table: usize, row: usize, column: usize) -> Option<Value> {
+        self.table(table)?.cell(row, column)
     }
 }

@@ -6,7 +6,8 @@ use batches::layout::Catalog;
 use values::name::Name;
 
 // A kept table: the first table of the batch in the first bytes of its area, told under a name of
-// its own.
+// its own. The table is a `Copy` struct of fixed size: so the area is an array with a length beside
+// it, and no vector.
 #[derive(Clone, Copy)]
 pub struct KeptTable {
     pub(crate) name: Name,

@@ -16,26 +16,19 @@ use values::name::Name;
 fn lawful_name(bytes: [u8; 16]) -> Result<Name, StoreFault>
     ensures { outcome name_bytes store_refusal result ≡ name_offered bytes }
 {
-    match Name::new(&bytes) {
-        Some(name) => Ok(name),
-        None => Err(StoreFault::Name),
-    }
+    Name::new(&bytes).ok_or(StoreFault::Name)
 }
 
 // Where the one table of a batch lies.
+#[tactic(auto, using(crate::proofs::Offering::one_offered, crate::proofs::Offering::not_one, crate::proofs::Offering::unread, crate::proofs::Exits::carried))]
 fn only_table(batch: &[u8]) -> Result<Catalog, StoreFault>
     ensures { outcome (told_by batch.now) store_refusal result ≡ table_offered (reading batch.now) }
 {
-    match check(batch) {
-        Ok(catalog) => {
-            if catalog.len() == 1 {
-                Ok(catalog)
-            } else {
-                Err(StoreFault::Batch { place: 0 })
-            }
-        }
-        Err(fault) => Err(StoreFault::Batch { place: fault.place }),
+    let catalog = check(batch)?;
+    if catalog.len() != 1 {
+        return Err(StoreFault::Batch { place: 0 });
     }
+    Ok(catalog)
 }
 
 // The bytes of a place that begin with a batch.

@@ -1,17 +1,18 @@
-ghost use Rattle.std.specs.Prelude.{◌≡◌, ◌+◌, ◌-◌, ◌^◌, ◌<◌, ◌≤◌, length, Decides, filter};
+ghost use Rattle.std.specs.Prelude.{◌≡◌};
 ghost use Rattle.std.proofs.Common.{sym, ap₂, ◌∙◌};
 ghost use Rattle.std.specs.Option.{option_map};
 ghost use Rattle.batches.specs.Columns.{heading_of};
 ghost use Rattle.stores.specs.Agreeing.{EqualByName, EqualReflexive, EqualSymmetric, EqualTransitive, LikeByName, LikeGivesEqual, LikeReflexive, LikeSymmetric, LikeTransitive};
-ghost use Rattle.stores.specs.Meaning.{name_told, value_of};
+ghost use Rattle.stores.specs.Meaning.{column_of, count_of, value_of};
 ghost use Rattle.stores.specs.PairLaws.{PairAlike, PairOfEquals, PairSingle, PairUnlike};
-ghost use Rattle.stores.specs.Paired.{Narrow, join_count, join_tables, pair_number, pair_stands, paired, same_columns, untold, paired_table};
+ghost use Rattle.stores.specs.Paired.{Narrow, join_count, join_tables, pair_number, pair_stands, paired, same_columns, paired_table};
 ghost use Rattle.values.specs.Cells.{cell_of};
-ghost use Rattle.values.specs.Named.{name_bytes};
 ghost use Rattle.stores.specs.Pairing.{paired_lawful, lookup_paired};
 ghost use Rattle.stores.specs.PairNumbers.{numbers_named, numbers_known, numbers_distinct};
 
+use crate::names::Names;
 use crate::pair::{Pair, PairNumber};
+use crate::rows::counted;
 use crate::store::{Listed, Store};
 use batches::columns::Column;
 use values::name::Name;
@@ -41,79 +42,73 @@ impl<A, B> Pair<A, B> {
     }
 }
 
-// Whether columns have the same name and type.
-fn is_same(a: Column, b: Column) -> bool
-    ensures { Decides result (heading_of a ≡ heading_of b) }
-{
-    a.name == b.name && a.holds == b.holds
+// A table of a store, by its number there.
+#[derive(Drop)]
+struct TableOf<'a, S: Store> {
+    store: &'a S,
+    number: S::Number,
 }
 
-// Whether there is the same column at a position of two tables, or none in both.
-fn same_position(a: Option<Column>, b: Option<Column>) -> bool
-    ensures { Decides result (option_map heading_of a ≡ option_map heading_of b) }
-{
-    let Some(a) = a else {
-        return b.is_none();
-    };
-    let Some(b) = b else {
-        return false;
-    };
-    is_same(a, b)
+impl<'a, S: Store> TableOf<'a, S> {
+    fn new(store: &'a S, number: S::Number) -> TableOf<'a, S>
+        ensures { S.Store.stands result.store.now result.number ≡ S.Store.stands store.now number }
+    {
+        TableOf { store, number }
+    }
+
+    fn column(&self, i: usize) -> Option<Column>
+        ensures { option_map heading_of result ≡ column_of (S.Store.stands self.now.store.now self.now.number) i }
+    {
+        self.store.column(self.number, i)
+    }
+
+    fn count(&self) -> Option<usize>
+        ensures { result ≡ count_of (S.Store.stands self.now.store.now self.now.number) }
+    {
+        self.store.count(self.number)
+    }
+
+    fn cell(&self, row: usize, column: usize) -> Option<Value>
+        ensures { option_map cell_of result ≡ value_of (S.Store.stands self.now.store.now self.now.number) row column }
+    {
+        self.store.cell(self.number, row, column)
+    }
 }
 
 // Whether two tables have the same columns. A lawful table has at most eight, so that the first
 // eight positions tell.
-fn same_columns<A: Store, B: Store>(a: &A, m: A::Number, b: &B, n: B::Number) -> bool
-    requires { (Narrow (A.Store.stands a.now m)) × (Narrow (B.Store.stands b.now n)) }
-    ensures { result ≡ same_columns (A.Store.stands a.now m) (B.Store.stands b.now n) }
+fn same_columns<A: Store, B: Store>(a: TableOf<A>, b: TableOf<B>) -> bool
+    requires { (Narrow (A.Store.stands a.store.now a.number)) × (Narrow (B.Store.stands b.store.now b.number)) }
+    ensures { result ≡ same_columns (A.Store.stands a.entry.store.now a.entry.number) (B.Store.stands b.entry.store.now b.entry.number) }
 {
-    for i in 0..8 {
-        if !same_position(a.column(m, i), b.column(n, i)) {
-            return false;
-        }
-    }
-    true
+    (0..8).all(|i| a.column(i) == b.column(i))
 }
 
 // How many rows there are together; none where either is none, or where there are too many for a
 // table.
+#[tactic(auto, unfolding(crate::specs::Paired::join_count))]
 fn count_together(m: Option<usize>, n: Option<usize>) -> Option<usize>
     ensures { result ≡ join_count m n }
 {
-    let m = m?;
-    let n = n?;
-    if m > 1_000_000 || n > 1_000_000 - m {
-        return None;
-    }
-    Some(m + n)
-}
-
-// The row of the second table that stands so far down in both, where the first has so many rows.
-fn later_row(row: usize, count: usize) -> usize
-    requires { count ≤ row }
-    ensures { result ≡ row - count }
-{
-    row - count
+    counted(m?.checked_add(n?)?)
 }
 
 // A cell of two tables taken together: the rows of the second come after those of the first.
+#[tactic(auto, using(crate::proofs::JoinedRows::cell_uncounted, crate::proofs::JoinedRows::cell_first, crate::proofs::JoinedRows::cell_second), unfolding(crate::specs::Paired::join_count))]
 fn cell_together<A: Store, B: Store>(
-    a: &A,
-    m: A::Number,
-    b: &B,
-    n: B::Number,
+    a: TableOf<A>,
+    b: TableOf<B>,
     row: usize,
     column: usize,
 ) -> Option<Value>
-    ensures { option_map cell_of result ≡ value_of (join_tables (A.Store.stands a.now m) (B.Store.stands b.now n)) row column }
+    ensures { option_map cell_of result ≡ value_of (join_tables (A.Store.stands a.entry.store.now a.entry.number) (B.Store.stands b.entry.store.now b.entry.number)) row column }
 {
-    let count = a.count(m)?;
-    let _all = count_together(Some(count), b.count(n))?;
+    let count = a.count()?;
+    let _all = count_together(Some(count), b.count())?;
     if row < count {
-        a.cell(m, row, column)
+        a.cell(row, column)
     } else {
-        let later = later_row(row, count);
-        b.cell(n, later, column)
+        b.cell(row - count, column)
     }
 }
 
@@ -137,13 +132,14 @@ impl<A: Store, B: Store> Store for Pair<A, B> {
 
     ghost distinct = { λ s m n k p q. numbers_distinct (A.Store.stands s.first) (B.Store.stands s.second) (A.Store.number s.first m) (A.Store.number s.first n) (B.Store.number s.second m) (B.Store.number s.second n) (A.Store.distinct s.first m n) (B.Store.distinct s.second m n) k p q };
 
+    #[tactic(auto, unfolding(crate::specs::Paired::pair_number))]
     fn find(&self, name: Name) -> Option<PairNumber<A::Number, B::Number>> {
         match (self.first.find(name), self.second.find(name)) {
             (None, None) => None,
             (None, Some(n)) => Some(PairNumber::Second(n)),
             (Some(m), None) => Some(PairNumber::First(m)),
             (Some(m), Some(n)) => {
-                if same_columns(&self.first, m, &self.second, n) {
+                if same_columns(TableOf::new(&self.first, m), TableOf::new(&self.second, n)) {
                     Some(PairNumber::Both(m, n))
                 } else {
                     Some(PairNumber::First(m))
@@ -152,6 +148,7 @@ impl<A: Store, B: Store> Store for Pair<A, B> {
         }
     }
 
+    #[tactic(auto, using(crate::proofs::JoinedRows::column_joined), unfolding(crate::specs::Paired::pair_stands))]
     fn column(&self, table: PairNumber<A::Number, B::Number>, i: usize) -> Option<Column> {
         match table {
             PairNumber::First(m) => self.first.column(m, i),
@@ -160,6 +157,7 @@ impl<A: Store, B: Store> Store for Pair<A, B> {
         }
     }
 
+    #[tactic(auto, using(crate::proofs::JoinedRows::count_joined), unfolding(crate::specs::Paired::pair_stands))]
     fn count(&self, table: PairNumber<A::Number, B::Number>) -> Option<usize> {
         match table {
             PairNumber::First(m) => self.first.count(m),
@@ -168,6 +166,7 @@ impl<A: Store, B: Store> Store for Pair<A, B> {
         }
     }
 
+    #[tactic(auto, using(crate::proofs::PairFound::stands_both), unfolding(crate::specs::Paired::pair_stands))]
     fn cell(
         &self,
         table: PairNumber<A::Number, B::Number>,
@@ -177,51 +176,21 @@ impl<A: Store, B: Store> Store for Pair<A, B> {
         match table {
             PairNumber::First(m) => self.first.cell(m, row, column),
             PairNumber::Second(n) => self.second.cell(n, row, column),
-            PairNumber::Both(m, n) => cell_together(&self.first, m, &self.second, n, row, column),
+            PairNumber::Both(m, n) => cell_together(
+                TableOf::new(&self.first, m),
+                TableOf::new(&self.second, n),
+                row,
+                column,
+            ),
         }
     }
 }
 
-// How many tables a store tells, where they are at most so many.
-fn tables_up_to<S: Listed>(store: &S, most: usize) -> usize
-    requires { length (S.Store.told store.now) ≤ most }
-    ensures { result ≡ length (S.Store.told store.now) }
-{
-    for i in 0..most {
-        if store.name(i).is_none() {
-            return i;
-        }
-    }
-    most
-}
-
-// The name at a place among the tables of the second store that the first does not tell. Each table
-// that is passed over has a name of the first's, so that the walk goes no further than the first's
-// tables and the place together.
-fn untold_name<A: Store, B: Listed>(a: &A, b: &B, place: usize) -> Option<Name>
-    requires { length (A.Store.told a.now) + place < 2 ^ 64 }
-    ensures { option_map name_bytes result ≡ name_told (filter (untold (A.Store.told a.now)) (B.Store.told b.now)) place }
-{
-    let mut i = 0;
-    let mut left = place;
-    while let Some(name) = b.name(i) {
-        if a.find(name).is_none() {
-            if left == 0 {
-                return Some(name);
-            }
-            left -= 1;
-        }
-        i += 1;
-    }
-    None
-}
-
+// Each name asked for passes over the first store's names, of which there are few.
 impl<A: Listed, B: Listed> Listed for Pair<A, B> {
     fn name(&self, place: usize) -> Option<Name> {
-        if let Some(name) = self.first.name(place) {
-            return Some(name);
-        }
-        let tables = tables_up_to(&self.first, place);
-        untold_name(&self.first, &self.second, place - tables)
+        let own = Names::new(&self.first);
+        let others = Names::new(&self.second).filter(|name| self.first.find(*name).is_none());
+        own.chain(others).nth(place)
     }
 }

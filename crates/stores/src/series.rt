@@ -8,6 +8,7 @@ ghost use Rattle.values.specs.Cells.{Cell, cell_of};
 ghost use Rattle.stores.specs.SeriesStoreTellsLemmas.{lawful_told, named_told, known_told, same_named};
 
 use crate::faults::StoreFault;
+use crate::rows::counted;
 use crate::series_store::{OnlyTable, Series, SeriesStore};
 use crate::store::{Listed, Store};
 use batches::columns::Column;
@@ -28,6 +29,7 @@ fn series_column() -> Option<Column>
 
 impl SeriesStore {
     // A store that tells nothing yet.
+    #[tactic(auto, unfolding(crate::specs::Series::series_told))]
     pub fn new() -> SeriesStore
         ensures { series_told result ≡ [] }
     {
@@ -36,12 +38,11 @@ impl SeriesStore {
 
     // Tells the numbers from the first to the last under a name. A name that is not lawful is
     // refused, and changes nothing.
+    #[tactic(auto, unfolding(crate::specs::Series::series_told))]
     pub fn set(&mut self, name: [u8; 16], first: i32, last: i32) -> Result<(), StoreFault>
         ensures { Sets name first last (series_told self.old) (series_told self.new) result }
     {
-        let Some(name) = Name::new(&name) else {
-            return Err(StoreFault::Name);
-        };
+        let name = Name::new(&name).ok_or(StoreFault::Name)?;
         self.series = Some(Series { name, first, last });
         Ok(())
     }
@@ -56,7 +57,7 @@ impl Series {
             return Some(0);
         }
         let count = (self.last as i64 - self.first as i64 + 1) as usize;
-        if count > 1_000_000 { None } else { Some(count) }
+        counted(count)
     }
 
     // The number in a row that there is.
@@ -87,13 +88,10 @@ impl Store for SeriesStore {
 
     fn find(&self, name: Name) -> Option<OnlyTable> {
         let series = self.series?;
-        if name == series.name {
-            Some(OnlyTable)
-        } else {
-            None
-        }
+        (name == series.name).then_some(OnlyTable)
     }
 
+    #[tactic(auto, unfolding(crate::specs::Meaning::column_of))]
     fn column(&self, _table: OnlyTable, i: usize) -> Option<Column> {
         let _series = self.series?;
         if i > 0 {
@@ -102,11 +100,13 @@ impl Store for SeriesStore {
         series_column()
     }
 
+    #[tactic(auto, using(crate::proofs::SeriesAsked::count_is), unfolding(crate::specs::Meaning::count_of))]
     fn count(&self, _table: OnlyTable) -> Option<usize> {
         let series = self.series?;
         series.count()
     }
 
+    #[tactic(auto, using(crate::proofs::SeriesAsked::body_marked, crate::proofs::SeriesAsked::body_counted, crate::proofs::SeriesAsked::number_here, crate::proofs::SeriesAsked::number_past, crate::proofs::SeriesAsked::number_beside), unfolding(crate::specs::Meaning::value_of))]
     fn cell(&self, _table: OnlyTable, row: usize, column: usize) -> Option<Value> {
         let series = self.series?;
         let count = series.count()?;
@@ -118,6 +118,7 @@ impl Store for SeriesStore {
 }
 
 impl Listed for SeriesStore {
+    #[tactic(auto, unfolding(crate::specs::Meaning::name_told, crate::specs::Series::series_told))]
     fn name(&self, place: usize) -> Option<Name> {
         let series = self.series?;
         if place > 0 {

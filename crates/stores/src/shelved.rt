@@ -37,7 +37,7 @@ impl<S: Store> Store for Shelf<S> {
         if let Some(number) = self.below.find(name) {
             return Some(ShelfNumber::Below(number));
         }
-        let place = self.kept.place_named(name)?;
+        let place = self.kept.find(name)?;
         Some(ShelfNumber::Place(place))
     }
 
@@ -65,6 +65,7 @@ impl<S: Store> Store for Shelf<S> {
 
 impl<S> Shelf<S> {
     // A shelf on a store, with all its places free.
+    #[tactic(auto, using(crate::proofs::Shelving::all_told))]
     pub fn new(below: S) -> Shelf<S>
         ensures below { result.below ≡ below }
         ensures places { holds_in result.kept ≡ all_free }
@@ -83,12 +84,8 @@ impl<S> Shelf<S> {
         ensures frees { DropFrees }
         ensures visible { DropVisible }
     {
-        let Some(name) = Name::new(&name) else {
-            return Err(ShelfFault::NameNotKept);
-        };
-        let Some(place) = self.kept.place_named(name) else {
-            return Err(ShelfFault::NameNotKept);
-        };
+        let name = Name::new(&name).ok_or(ShelfFault::NameNotKept)?;
+        let place = self.kept.find(name).ok_or(ShelfFault::NameNotKept)?;
         self.kept.free(place);
         Ok(())
     }
@@ -109,9 +106,7 @@ impl<S: Store> Shelf<S> {
         if self.find(table.name).is_some() {
             return Err(ShelfFault::NameTold);
         }
-        let Some(place) = self.kept.free_place() else {
-            return Err(ShelfFault::NoPlaceFree);
-        };
+        let place = self.kept.free_place().ok_or(ShelfFault::NoPlaceFree)?;
         self.kept.put(place, table);
         Ok(())
     }

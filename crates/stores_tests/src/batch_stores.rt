@@ -3,7 +3,7 @@ use crate::pieces::*;
 use std::alloc::AllocError;
 use std::test::Fail;
 use stores::batch_store::BatchStore;
-use stores::faults::{LoadError, StoreFault};
+use stores::faults::{Fault, LoadError, StoreFault};
 use stores::store::{Listed, Store};
 use values::kinds::ColumnType;
 use values::value::Value;
@@ -21,18 +21,13 @@ fn an_empty_store_tells_nothing(rt: HostRuntime) -> Result<(), Fail> {
 
 #[test]
 fn answers_by_name_row_and_column(rt: HostRuntime) -> Result<(), Fail> {
-    let mut store = BatchStore::new(rt.alloc());
-    let batch = sheets(rt.alloc(), name(b"sheet")?, 3)?;
-    store.load(rt.alloc(), &batch)?;
+    let store = loaded(rt.alloc(), &sheets(rt.alloc(), name(b"sheet")?, 3)?)?;
     assert_eq!(rt; store.find(name(b"sheet")?), Some(0));
     assert_eq!(rt; store.find(name(b"sheets")?), None);
     assert_eq!(rt; store.count(0), Some(3));
     assert_eq!(rt; store.count(1), None);
-    let Some(second) = store.column(0, 1) else {
-        return Err(Fail::new("no second column"));
-    };
-    assert!(rt; second.name == name(b"cand")?);
-    assert_eq!(rt; second.holds, ColumnType::Text);
+    let second = column(b"cand", ColumnType::Text)?;
+    assert!(rt; store.column(0, 1) == Some(second));
     assert!(rt; store.column(0, 2).is_none());
     same_value(&rt, store.cell(0, 2, 0), Some(Value::integer(2)));
     same_value(&rt, store.cell(0, 2, 1), Some(Value::null()));
@@ -43,9 +38,7 @@ fn answers_by_name_row_and_column(rt: HostRuntime) -> Result<(), Fail> {
 
 #[test]
 fn rows_past_65536_are_their_own(rt: HostRuntime) -> Result<(), Fail> {
-    let mut store = BatchStore::new(rt.alloc());
-    let batch = sheets(rt.alloc(), name(b"sheet")?, 65_538)?;
-    store.load(rt.alloc(), &batch)?;
+    let store = loaded(rt.alloc(), &sheets(rt.alloc(), name(b"sheet")?, 65_538)?)?;
     assert_eq!(rt; store.count(0), Some(65_538));
     same_value(&rt, store.cell(0, 65_535, 0), Some(Value::integer(65_535)));
     same_value(&rt, store.cell(0, 65_536, 0), Some(Value::integer(65_536)));
@@ -56,9 +49,7 @@ fn rows_past_65536_are_their_own(rt: HostRuntime) -> Result<(), Fail> {
 
 #[test]
 fn a_refused_load_changes_nothing(rt: HostRuntime) -> Result<(), Fail> {
-    let mut store = BatchStore::new(rt.alloc());
-    let batch = sheets(rt.alloc(), name(b"sheet")?, 2)?;
-    store.load(rt.alloc(), &batch)?;
+    let mut store = loaded(rt.alloc(), &sheets(rt.alloc(), name(b"sheet")?, 2)?)?;
     let refused = store.load(rt.alloc(), b"\x01sheet           \x7f");
     let fault = StoreFault::Batch { place: 17 };
     assert_eq!(rt; refused, Err(LoadError::Refused(fault)));
@@ -71,9 +62,7 @@ fn a_refused_load_changes_nothing(rt: HostRuntime) -> Result<(), Fail> {
 
 #[test]
 fn another_load_takes_the_place_of_the_first(rt: HostRuntime) -> Result<(), Fail> {
-    let mut store = BatchStore::new(rt.alloc());
-    let first = sheets(rt.alloc(), name(b"first")?, 2)?;
-    store.load(rt.alloc(), &first)?;
+    let mut store = loaded(rt.alloc(), &sheets(rt.alloc(), name(b"first")?, 2)?)?;
     let second = sheets(rt.alloc(), name(b"second")?, 1)?;
     store.load(rt.alloc(), &second)?;
     assert_eq!(rt; store.find(name(b"first")?), None);

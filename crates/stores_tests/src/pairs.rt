@@ -1,10 +1,12 @@
 // What a pair of stores tells.
 use crate::pieces::*;
 use batches::columns::Column;
+use batches::command::End;
 use batches::writer::BatchWriter;
 use std::alloc::{AllocError, Global};
 use std::test::Fail;
 use stores::batch_store::BatchStore;
+use stores::names::Names;
 use stores::pair::Pair;
 use stores::store::{Listed, Store};
 use values::kinds::ColumnType;
@@ -13,37 +15,22 @@ use values::value::Value;
 // A store with one table `sheet` of two columns and one row, whose first cell is null.
 fn sheet(heap: Global, first: Column, second: Column) -> Result<BatchStore, Fail> {
     let mut writer = BatchWriter::new(heap);
-    writer.table(name(b"sheet")?)?;
-    writer.column(first)?;
-    writer.column(second)?;
-    writer.cell(Value::null())?;
-    writer.cell(Value::null())?;
-    writer.end()?;
-    let batch = writer.finish();
-    let mut store = BatchStore::new(heap);
-    store.load(heap, &batch)?;
-    Ok(store)
+    writer.put(name(b"sheet")?)?;
+    writer.put(first)?;
+    writer.put(second)?;
+    writer.put(Value::null())?;
+    writer.put(Value::null())?;
+    writer.put(End)?;
+    loaded(heap, &writer.finish())
 }
 
 #[test]
 fn a_pair_joins_tables_with_the_same_columns_only(rt: HostRuntime) -> Result<(), Fail> {
     let heap = rt.alloc();
-    let seq = Column {
-        name: name(b"seq")?,
-        holds: ColumnType::Integer,
-    };
-    let cand = Column {
-        name: name(b"cand")?,
-        holds: ColumnType::Text,
-    };
-    let renamed = Column {
-        name: name(b"pupil")?,
-        holds: ColumnType::Text,
-    };
-    let retyped = Column {
-        name: name(b"cand")?,
-        holds: ColumnType::Real,
-    };
+    let seq = column(b"seq", ColumnType::Integer)?;
+    let cand = column(b"cand", ColumnType::Text)?;
+    let renamed = column(b"pupil", ColumnType::Text)?;
+    let retyped = column(b"cand", ColumnType::Real)?;
     let cases = [
         (seq, cand, 2),
         (cand, seq, 1),
@@ -99,10 +86,8 @@ fn a_pair_has_the_rows_of_the_first_and_then_of_the_second(rt: HostRuntime) -> R
 #[test]
 fn a_pair_lists_the_first_and_then_what_only_the_second_tells(rt: HostRuntime) -> Result<(), Fail> {
     let heap = rt.alloc();
-    let mut first = BatchStore::new(heap);
-    first.load(heap, &two_tables(heap, name(b"alpha")?, name(b"beta")?)?)?;
-    let mut second = BatchStore::new(heap);
-    second.load(heap, &two_tables(heap, name(b"beta")?, name(b"gamma")?)?)?;
+    let first = loaded(heap, &two_tables(heap, name(b"alpha")?, name(b"beta")?)?)?;
+    let second = loaded(heap, &two_tables(heap, name(b"beta")?, name(b"gamma")?)?)?;
     let pair = Pair::new(first, second);
     let names = [
         (0, name(b"alpha")?),
@@ -110,12 +95,11 @@ fn a_pair_lists_the_first_and_then_what_only_the_second_tells(rt: HostRuntime) -
         (2, name(b"gamma")?),
     ];
     for (place, wanted) in names {
-        let Some(found) = pair.name(place) else {
-            return Err(Fail::new("no name"));
-        };
-        assert!(rt; found == wanted);
+        assert!(rt; pair.name(place) == Some(wanted));
+        assert!(rt; Names::new(&pair).nth(place) == Some(wanted));
     }
     assert!(rt; pair.name(3).is_none());
+    assert!(rt; Names::new(&pair).nth(3).is_none());
     Ok(())
 }
 
@@ -123,10 +107,8 @@ fn a_pair_lists_the_first_and_then_what_only_the_second_tells(rt: HostRuntime) -
 #[test]
 fn pairs_of_pairs_are_stores(rt: HostRuntime) -> Result<(), Fail> {
     let heap = rt.alloc();
-    let mut first = BatchStore::new(heap);
-    first.load(heap, &sheets(heap, name(b"sheet")?, 2)?)?;
-    let mut second = BatchStore::new(heap);
-    second.load(heap, &sheets(heap, name(b"sheet")?, 3)?)?;
+    let first = loaded(heap, &sheets(heap, name(b"sheet")?, 2)?)?;
+    let second = loaded(heap, &sheets(heap, name(b"sheet")?, 3)?)?;
     let pile = Pair::new(Pair::new(first, second), series(1, 9)?);
     assert_eq!(rt; count_of(&pile, name(b"sheet")?), Some(5));
     assert_eq!(rt; count_of(&pile, name(b"numbers")?), Some(9));

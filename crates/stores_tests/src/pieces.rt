@@ -1,9 +1,11 @@
 // What the tests of stores are made of.
 use batches::columns::Column;
+use batches::command::End;
 use batches::writer::BatchWriter;
 use std::alloc::{AllocError, Global};
 use std::process::Abort;
 use std::test::Fail;
+use stores::batch_store::BatchStore;
 use stores::series_store::SeriesStore;
 use stores::store::Store;
 use values::kinds::ColumnType;
@@ -11,47 +13,40 @@ use values::name::Name;
 use values::value::Value;
 
 pub(crate) fn name(bytes: &[u8]) -> Result<Name, Fail> {
-    match Name::new(bytes) {
-        Some(name) => Ok(name),
-        None => Err(Fail::new("no lawful name")),
-    }
+    Name::new(bytes).ok_or_else(|| Fail::new("no lawful name"))
+}
+
+pub(crate) fn column(bytes: &[u8], holds: ColumnType) -> Result<Column, Fail> {
+    let name = name(bytes)?;
+    Ok(Column { name, holds })
 }
 
 // A table with the columns `seq` and `cand`, and rows numbered from 0.
 pub(crate) fn sheets(heap: Global, table: Name, rows: i32) -> Result<Vec<u8>, Fail> {
     let mut writer = BatchWriter::new(heap);
-    writer.table(table)?;
-    let seq = name(b"seq")?;
-    writer.column(Column {
-        name: seq,
-        holds: ColumnType::Integer,
-    })?;
-    let cand = name(b"cand")?;
-    writer.column(Column {
-        name: cand,
-        holds: ColumnType::Text,
-    })?;
+    writer.put(table)?;
+    writer.put(column(b"seq", ColumnType::Integer)?)?;
+    writer.put(column(b"cand", ColumnType::Text)?)?;
     for row in 0..rows {
-        writer.cell(Value::integer(row))?;
-        writer.cell(Value::null())?;
+        writer.put(Value::integer(row))?;
+        writer.put(Value::null())?;
     }
-    writer.end()?;
+    writer.put(End)?;
     Ok(writer.finish())
 }
 
 pub(crate) fn written(value: Option<Value>) -> Option<[u8; 17]> {
-    match value {
-        Some(value) => {
-            let mut bytes = [0xff; 17];
-            let _ = value.write(&mut bytes);
-            Some(bytes)
-        }
-        None => None,
-    }
+    value.map(|value| value.to_bytes())
 }
 
 pub(crate) fn same_value(rt: &impl Abort, found: Option<Value>, wanted: Option<Value>) {
     assert_eq!(rt; written(found), written(wanted));
+}
+
+pub(crate) fn loaded(heap: Global, batch: &[u8]) -> Result<BatchStore, Fail> {
+    let mut store = BatchStore::new(heap);
+    store.load(heap, batch)?;
+    Ok(store)
 }
 
 pub(crate) fn series(first: i32, last: i32) -> Result<SeriesStore, Fail> {
@@ -64,13 +59,9 @@ pub(crate) fn series(first: i32, last: i32) -> Result<SeriesStore, Fail> {
 pub(crate) fn two_tables(heap: Global, first: Name, second: Name) -> Result<Vec<u8>, Fail> {
     let mut writer = BatchWriter::new(heap);
     for table in [first, second] {
-        writer.table(table)?;
-        let seq = name(b"seq")?;
-        writer.column(Column {
-            name: seq,
-            holds: ColumnType::Integer,
-        })?;
-        writer.end()?;
+        writer.put(table)?;
+        writer.put(column(b"seq", ColumnType::Integer)?)?;
+        writer.put(End)?;
     }
     Ok(writer.finish())
 }

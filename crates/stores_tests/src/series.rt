@@ -1,7 +1,6 @@
 // What a series store tells.
 use crate::pieces::*;
 use std::test::Fail;
-use stores::batch_store::BatchStore;
 use stores::faults::StoreFault;
 use stores::series_store::{OnlyTable, SeriesStore};
 use stores::store::Store;
@@ -55,11 +54,8 @@ fn a_series_tells_one_column_under_its_name(rt: HostRuntime) -> Result<(), Fail>
     );
     assert_eq!(rt; store.count(OnlyTable), Some(2));
     assert_eq!(rt; store.find(name(b"numbers")?), Some(OnlyTable));
-    let Some(column) = store.column(OnlyTable, 0) else {
-        return Err(Fail::new("no column"));
-    };
-    assert!(rt; column.name == name(b"n")?);
-    assert_eq!(rt; column.holds, ColumnType::Integer);
+    let only = column(b"n", ColumnType::Integer)?;
+    assert!(rt; store.column(OnlyTable, 0) == Some(only));
     assert!(rt; store.column(OnlyTable, 1).is_none());
     Ok(())
 }

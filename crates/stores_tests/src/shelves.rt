@@ -1,12 +1,11 @@
 // What a shelf tells, what it keeps where, and what it refuses.
 use crate::pieces::*;
-use batches::columns::Column;
+use batches::command::End;
 use batches::writer::BatchWriter;
 use std::alloc::{AllocError, Global};
 use std::process::Abort;
 use std::test::Fail;
-use stores::batch_store::BatchStore;
-use stores::faults::{Layer, ShelfFault};
+use stores::faults::{Fault, Layer, ShelfFault};
 use stores::pair::Pair;
 use stores::series_store::SeriesStore;
 use stores::shelf::{Shelf, ShelfNumber};
@@ -23,15 +22,13 @@ fn refused(
     number: u32,
     place: usize,
 ) -> Result<(), Fail> {
-    match answer {
-        Ok(()) => Err(Fail::new("not refused")),
-        Err(fault) => {
-            assert_eq!(rt; fault.layer(), layer);
-            assert_eq!(rt; fault.number(), number);
-            assert_eq!(rt; fault.place(), place);
-            Ok(())
-        }
-    }
+    let Err(fault) = answer else {
+        return Err(Fail::new("not refused"));
+    };
+    assert_eq!(rt; fault.layer(), layer);
+    assert_eq!(rt; fault.number(), number);
+    assert_eq!(rt; fault.place(), place);
+    Ok(())
 }
 
 // The place that a table is kept in.
@@ -58,10 +55,10 @@ const NAMES: [[u8; 16]; 9] = [
 fn eight_places_are_filled_and_a_middle_one_is_used_again(rt: HostRuntime) -> Result<(), Fail> {
     let heap = rt.alloc();
     let mut shelf = Shelf::new(series(1, 9)?);
-    for i in 0..8 {
-        let batch = sheets(heap, name(b"sheet")?, i as i32)?;
-        shelf.keep(NAMES[i], &batch)?;
-        assert_eq!(rt; place_of(&shelf, name(&NAMES[i])?), Some(i));
+    for (place, kept) in NAMES[..8].iter().enumerate() {
+        let batch = sheets(heap, name(b"sheet")?, place as i32)?;
+        shelf.keep(*kept, &batch)?;
+        assert_eq!(rt; place_of(&shelf, name(kept)?), Some(place));
     }
     let batch = sheets(heap, name(b"sheet")?, 20)?;
     refused(&rt, shelf.keep(NAMES[8], &batch), Layer::Shelf, 23, 0)?;
@@ -70,9 +67,9 @@ fn eight_places_are_filled_and_a_middle_one_is_used_again(rt: HostRuntime) -> Re
     shelf.keep(NAMES[8], &batch)?;
     assert_eq!(rt; place_of(&shelf, name(&NAMES[8])?), Some(3));
     assert_eq!(rt; count_of(&shelf, name(&NAMES[8])?), Some(20));
-    for i in 4..8 {
-        assert_eq!(rt; place_of(&shelf, name(&NAMES[i])?), Some(i));
-        assert_eq!(rt; count_of(&shelf, name(&NAMES[i])?), Some(i));
+    for (place, kept) in NAMES[..8].iter().enumerate().skip(4) {
+        assert_eq!(rt; place_of(&shelf, name(kept)?), Some(place));
+        assert_eq!(rt; count_of(&shelf, name(kept)?), Some(place));
     }
     assert_eq!(rt; count_of(&shelf, name(b"numbers")?), Some(9));
     Ok(())
@@ -83,8 +80,8 @@ fn the_lowest_free_place_is_taken(rt: HostRuntime) -> Result<(), Fail> {
     let heap = rt.alloc();
     let batch = sheets(heap, name(b"sheet")?, 1)?;
     let mut shelf = Shelf::new(series(1, 9)?);
-    for i in 0..4 {
-        shelf.keep(NAMES[i], &batch)?;
+    for kept in &NAMES[..4] {
+        shelf.keep(*kept, &batch)?;
     }
     shelf.drop(NAMES[2])?;
     shelf.drop(NAMES[0])?;
@@ -124,8 +121,8 @@ fn what_is_looked_for_first(rt: HostRuntime) -> Result<(), Fail> {
     let heap = rt.alloc();
     let mut shelf = Shelf::new(series(1, 9)?);
     let one = sheets(heap, name(b"sheet")?, 1)?;
-    for i in 0..8 {
-        shelf.keep(NAMES[i], &one)?;
+    for kept in &NAMES[..8] {
+        shelf.keep(*kept, &one)?;
     }
     let unlawful = *b"Sheet           ";
     let long = sheets(heap, name(b"sheet")?, 59)?;
@@ -140,8 +137,8 @@ fn what_is_looked_for_first(rt: HostRuntime) -> Result<(), Fail> {
     refused(&rt, shelf.keep(NAMES[0], &two), Layer::Store, 7, 0)?;
     refused(&rt, shelf.keep(NAMES[0], &one), Layer::Shelf, 22, 0)?;
     refused(&rt, shelf.keep(NAMES[8], &one), Layer::Shelf, 23, 0)?;
-    for i in 0..8 {
-        assert_eq!(rt; count_of(&shelf, name(&NAMES[i])?), Some(1));
+    for kept in &NAMES[..8] {
+        assert_eq!(rt; count_of(&shelf, name(kept)?), Some(1));
     }
     assert_eq!(rt; count_of(&shelf, name(&NAMES[8])?), None);
     Ok(())
@@ -167,17 +164,14 @@ fn only_kept_names_are_dropped(rt: HostRuntime) -> Result<(), Fail> {
 // A table with seven columns and sixteen rows, which has 2,048 bytes.
 fn full(heap: Global) -> Result<Vec<u8>, Fail> {
     let mut writer = BatchWriter::new(heap);
-    writer.table(name(b"sheet")?)?;
-    for i in 0..7 {
-        writer.column(Column {
-            name: name(&NAMES[i])?,
-            holds: ColumnType::Integer,
-        })?;
+    writer.put(name(b"sheet")?)?;
+    for bytes in &NAMES[..7] {
+        writer.put(column(bytes, ColumnType::Integer)?)?;
     }
     for cell in 0..112 {
-        writer.cell(Value::integer(cell))?;
+        writer.put(Value::integer(cell))?;
     }
-    writer.end()?;
+    writer.put(End)?;
     Ok(writer.finish())
 }
 
@@ -221,10 +215,8 @@ fn a_pair_of_a_shelf_and_a_pair(rt: HostRuntime) -> Result<(), Fail> {
     let heap = rt.alloc();
     let mut shelf = Shelf::new(series(1, 9)?);
     shelf.keep(*b"sheet           ", &sheets(heap, name(b"sheet")?, 2)?)?;
-    let mut first = BatchStore::new(heap);
-    first.load(heap, &sheets(heap, name(b"sheet")?, 3)?)?;
-    let mut second = BatchStore::new(heap);
-    second.load(heap, &sheets(heap, name(b"sheet")?, 4)?)?;
+    let first = loaded(heap, &sheets(heap, name(b"sheet")?, 3)?)?;
+    let second = loaded(heap, &sheets(heap, name(b"sheet")?, 4)?)?;
     let pile = Pair::new(shelf, Pair::new(first, second));
     let sheet = name(b"sheet")?;
     assert_eq!(rt; count_of(&pile, sheet), Some(9));

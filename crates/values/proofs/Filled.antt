@@ -1,13 +1,11 @@
 -- Texts filled with spaces to sixteen bytes. Assumes nothing.
-use Rattle.std.proofs.Common.{◌≡◌, ℕ, zero, suc, ◌-◌, ◌<◌, ◌≤◌, Bool, true, false, eqb, leb, List, [], ◌∷◌, ◌++◌, length, take, drop, replicate, Some, None, sym, refl, ap, ◌∙◌, subst, ap₂, arith, lit<}
-use Rattle.std.proofs.ByRecursion.{All-append}
-use Rattle.std.proofs.lemmas.List.{append-nil, length-append, length-drop, length-replicate, take_all}
+use Rattle.std.proofs.Common.{◌≡◌, ℕ, zero, suc, ◌-◌, Bool, true, false, eqb, leb, List, [], ◌∷◌, length, replicate, Some, None, sym, refl, ◌∙◌, ap₂, arith}
+use Rattle.std.proofs.lemmas.List.{append-nil}
+use Rattle.std.proofs.lemmas.List.Folds.{list_all-append}
 use Rattle.std.proofs.lemmas.Bool.{and_parts, and_from, eqb-true, leb-true}
-use Rattle.values.specs.Bytes.{each, printable, number_of}
-use Rattle.values.specs.Kept.{text_of}
+use Rattle.values.specs.Bytes.{each, printable}
 use Rattle.values.specs.Names.{filled, filled_if}
-use Rattle.values.proofs.Numbers.{Bytes, bytes_replicate}
-use Rattle.values.proofs.Texts.{text_of_from}
+use Rattle.values.proofs.Numbers.{Bytes}
 
 pub bytes_printable : (bs : List ℕ) → each printable bs ≡ true → Bytes bs
 bytes_printable [] h = tt
@@ -15,12 +13,6 @@ bytes_printable (b ∷ bs) h =
     let p = and_parts (printable b) (each printable bs) h in
     let l = leb-true b 126 (and_parts (leb 32 b) (leb b 126) p.0).1 in
     (omega arith, bytes_printable bs p.1)
-
-pub each_append : (p : ℕ → Bool) (xs ys : List ℕ) → each p xs ≡ true → each p ys ≡ true → each p (xs ++ ys) ≡ true
-each_append p [] ys h k = k
-each_append p (x ∷ xs) ys h k =
-    let q = and_parts (p x) (each p xs) h in
-    and_from _ _ q.0 (each_append p xs ys q.1 k)
 
 pub each_replicate : (p : ℕ → Bool) (n b : ℕ) → p b ≡ true → each p (replicate n b) ≡ true
 each_replicate p zero b h = refl
@@ -34,17 +26,13 @@ each_same b (c ∷ bs) h =
     ap₂ ◌∷◌ (sym (eqb-true b c p.0)) (each_same b bs p.1)
 
 pub filled_printable : (bs : List ℕ) → each printable bs ≡ true → each printable (filled bs) ≡ true
-filled_printable bs h = each_append printable bs (replicate (16 - length bs) 32) h (each_replicate printable (16 - length bs) 32 refl)
-
-pub length_filled : (bs : List ℕ) → length bs ≤ 16 → length (filled bs) ≡ 16
-length_filled bs h = simp (length-append, length-replicate) (omega arith)
+filled_printable bs h =
+    list_all-append printable bs (replicate (16 - length bs) 32) ∙
+    and_from _ _ h (each_replicate printable (16 - length bs) 32 refl)
 
 -- sixteen bytes are filled already
 pub filled_whole : (bs : List ℕ) → length bs ≡ 16 → filled bs ≡ bs
 filled_whole bs h = rw h (append-nil bs)
-
-pub bytes_filled : (bs : List ℕ) → Bytes bs → Bytes (filled bs)
-bytes_filled bs t = All-append (λ b. b < 256) bs (replicate (16 - length bs) 32) t (bytes_replicate (16 - length bs) 32 (lit< tt))
 
 -- what `filled_if` gave
 pub filled_if_some : (t : Bool) (bs ds : List ℕ) → Some ds ≡ filled_if t bs → (t ≡ true) × (ds ≡ filled bs)
@@ -54,18 +42,3 @@ filled_if_some false bs ds e = absurd (let z : ◌≡◌ {A = ℕ} 0 1 = cc in o
 pub filled_if_none : (t : Bool) (bs : List ℕ) → None ≡ filled_if t bs → t ≡ false
 filled_if_none true bs e = absurd (let z : ◌≡◌ {A = ℕ} 0 1 = cc in omega arith)
 filled_if_none false bs e = refl
-
--- the text in the numbers of the two halves
-pub text_held :
-    (bs ds : List ℕ) (high low : ℕ) →
-    Some ds ≡ filled_if (leb (length bs) 16) bs →
-    Bytes bs →
-    high ≡ number_of (take 8 ds) →
-    low ≡ number_of (take 8 (drop 8 ds)) →
-    (leb (length bs) 16 ≡ true) × (text_of high low ≡ filled bs)
-text_held bs ds high low f t a b =
-    let g = filled_if_some (leb (length bs) 16) bs ds f in
-    let l : length ds ≡ 16 = ap length g.1 ∙ length_filled bs (leb-true (length bs) 16 g.0) in
-    let back : take 8 (drop 8 ds) ≡ drop 8 ds = take_all 8 (drop 8 ds) (simp length-drop (omega arith)) in
-    let q : Bytes ds = subst Bytes (sym g.1) (bytes_filled bs t) in
-    (g.0, ap₂ text_of a (b ∙ ap number_of back) ∙ (text_of_from ds q l ∙ g.1))

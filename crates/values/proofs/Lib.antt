@@ -1,6 +1,6 @@
 pub mod Codec
-pub mod Each
 pub mod Filled
+pub mod Keys
 pub mod LawfulCells
 pub mod NameLaws
 pub mod NameTails
@@ -8,6 +8,7 @@ pub mod NameWords
 pub mod NamesWhole
 pub mod Numbers
 pub mod Operands
+pub mod RealOrder
 pub mod Reals
-pub mod SameNames
+pub mod SixteenHeld
 pub mod Texts

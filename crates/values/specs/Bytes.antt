@@ -1,5 +1,6 @@
 -- Numbers as bytes, the high byte first. Assumes nothing.
-use Rattle.std.specs.Prelude.{ℕ, zero, suc, ◌+◌, ◌*◌, ◌/◌, ◌%◌, ◌^◌, Bool, true, ◌&&◌, List, [], ◌∷◌, length, nat_eq, nat_le}
+use Rattle.std.specs.Prelude.{ℕ, zero, suc, ◌+◌, ◌*◌, ◌/◌, ◌%◌, ◌^◌, Bool, ◌&&◌, List, [], ◌∷◌, length, nat_eq, nat_le}
+use Rattle.std.specs.List.{list_all}
 
 -- the k lowest bytes of n, the high byte first
 abbrev pub bytes_of : ℕ → ℕ → List ℕ
@@ -17,8 +18,7 @@ printable b = nat_le 32 b && nat_le b 126
 
 -- a test holds of each byte
 abbrev pub each : (ℕ → Bool) → List ℕ → Bool
-each p [] = true
-each p (b ∷ bs) = p b && each p bs
+each = list_all
 
 abbrev pub zeros : List ℕ → Bool
 zeros = each (nat_eq 0)

@@ -3,9 +3,10 @@ use Rattle.std.specs.Prelude.{ℕ, Bool, true, ◌&&◌, List, length, ℤ, pos,
 use Rattle.std.specs.Float.{binary64}
 use Rattle.std.specs.Float.Ieee
 use Rattle.values.specs.Bytes.{each, printable}
-use Rattle.values.specs.Kept.{plain_real, text_of}
+use Rattle.values.specs.Kept.{bytes_held, plain_real}
 use Rattle.values.specs.declared.kinds.Kind.{Kind}
 use Rattle.values.specs.declared.kinds.Kind.TheVariants.{Null, Integer, Real, Text}
+use Rattle.values.specs.declared.sixteen.SixteenBytes.{SixteenBytes}
 use Rattle.values.specs.declared.value.Value.{Value}
 
 -- a cell: nothing, an integer, a real, or a text of sixteen bytes
@@ -15,14 +16,14 @@ pub data Cell : Type 0 where
   real : Float → Cell
   text : List ℕ → Cell
 
-abbrev pub cell_by : Kind → ℤ → Float → ℕ → ℕ → Cell
-cell_by Null n x high low = null
-cell_by Integer n x high low = integer n
-cell_by Real n x high low = real x
-cell_by Text n x high low = text (text_of high low)
+abbrev pub cell_by : Kind → ℤ → Float → SixteenBytes → Cell
+cell_by Null n x s = null
+cell_by Integer n x s = integer n
+cell_by Real n x s = real x
+cell_by Text n x s = text (bytes_held s)
 
 abbrev pub cell_of : Value → Cell
-cell_of v = cell_by v.kind v.integer v.real v.high v.low
+cell_of v = cell_by v.kind v.integer v.real v.text
 
 -- the integers of 32 bits
 abbrev pub in_range : ℤ → Bool

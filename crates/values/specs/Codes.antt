@@ -1,7 +1,6 @@
 -- A cell's seventeen bytes: a command byte and sixteen bytes of operand. Assumes nothing.
-use Rattle.std.specs.Prelude.{ℕ, Bool, true, false, cond, ◌&&◌, List, [], ◌∷◌, ◌++◌, length, take, drop, replicate, pos, Some, None, Option, ◌==◌, from_bits, to_bits, Float}
-use Rattle.std.specs.Int.{w32}
-use Rattle.std.proofs.Common.{of_z, to_z}
+use Rattle.std.specs.Prelude.{ℕ, Bool, true, false, cond, ◌&&◌, List, [], ◌∷◌, ◌++◌, length, take, drop, replicate, pos, Some, None, codes, Option, ◌==◌, from_bits, to_bits, Float}
+use Rattle.std.specs.Int.{cast_signed, cast_unsigned, w32}
 use Rattle.std.specs.Float.{float_is_finite, nan, inf, fin, binary64}
 use Rattle.values.specs.Bytes.{bytes_of, number_of, printable, each, zeros}
 use Rattle.values.specs.Cells.{Cell, null, integer, real, text}
@@ -12,7 +11,7 @@ use Rattle.values.specs.declared.kinds.ColumnType.TheVariants.{Integer, Real, Te
 -- how a cell is written: 10 null, 11 integer, 12 real, 13 text (hexadecimal), filled up with zeros
 unfoldable pub encoded : Cell → List ℕ
 encoded null = 0x10 ∷ replicate 16 0
-encoded (integer n) = 0x11 ∷ (bytes_of 4 (of_z w32 n) ++ replicate 12 0)
+encoded (integer n) = 0x11 ∷ (bytes_of 4 (cast_unsigned w32 n) ++ replicate 12 0)
 encoded (real x) = 0x12 ∷ (bytes_of 8 (to_bits binary64 x) ++ replicate 8 0)
 encoded (text bs) = 0x13 ∷ bs
 
@@ -31,7 +30,7 @@ abbrev pub null_from : List ℕ → Option Cell
 null_from bs = given (zeros bs) null
 
 abbrev pub integer_from : List ℕ → Option Cell
-integer_from bs = given (zeros (drop 4 bs)) (integer (to_z w32 (number_of (take 4 bs))))
+integer_from bs = given (zeros (drop 4 bs)) (integer (cast_signed w32 (number_of (take 4 bs))))
 
 abbrev pub real_from : List ℕ → Option Cell
 real_from bs =
@@ -88,3 +87,9 @@ type_byte Text = 3
 
 abbrev pub type_of : ℕ → Option ColumnType
 type_of b = cond (b == 1) (Some Integer) (cond (b == 2) (Some Real) (cond (b == 3) (Some Text) None))
+
+-- the word for a column type
+abbrev pub type_word : ColumnType → List ℕ
+type_word Integer = codes "integer"
+type_word Real = codes "real"
+type_word Text = codes "text"

@@ -3,6 +3,7 @@ use Rattle.std.specs.Prelude.{ℕ, Bool, true, false, not, ◌&&◌, List, ◌++
 use Rattle.std.specs.Float.{nan, inf, fin}
 use Rattle.values.specs.Bytes.{bytes_of, printable, each}
 use Rattle.values.specs.declared.kinds.Kind.{Kind}
+use Rattle.values.specs.declared.sixteen.SixteenBytes.{SixteenBytes}
 use Rattle.values.specs.declared.kinds.Kind.TheVariants.{Null, Integer, Real, Text}
 
 -- a real that a cell may hold: finite, and not negative zero
@@ -15,8 +16,11 @@ plain_real (fin s m e) = not (s && m == 0)
 unfoldable pub text_of : ℕ → ℕ → List ℕ
 text_of high low = bytes_of 8 high ++ bytes_of 8 low
 
-abbrev pub kept : Kind → Float → ℕ → ℕ → Bool
-kept Null x high low = true
-kept Integer x high low = true
-kept Real x high low = plain_real x
-kept Text x high low = each printable (text_of high low)
+abbrev pub bytes_held : SixteenBytes → List ℕ
+bytes_held s = text_of s.high s.low
+
+abbrev pub kept : Kind → Float → SixteenBytes → Bool
+kept Null x s = true
+kept Integer x s = true
+kept Real x s = plain_real x
+kept Text x s = each printable (bytes_held s)

@@ -8,3 +8,4 @@ pub mod Named
 pub mod Arithmetic
 pub mod Comparing
 pub mod Laws
+pub mod Keywords

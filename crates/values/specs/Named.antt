@@ -1,11 +1,11 @@
 -- What a name means: its sixteen bytes. Assumes nothing.
 use Rattle.std.specs.Prelude.{ℕ, Bool, true, false, cond, List, [], ◌∷◌, Some, None, Option, ◌==◌}
-use Rattle.values.specs.Kept.{text_of}
+use Rattle.values.specs.Kept.{bytes_held}
 use Rattle.values.specs.Names.{lawful_name, filled}
 use Rattle.values.specs.declared.name.Name.{Name}
 
 unfoldable pub name_bytes : Name → List ℕ
-name_bytes n = text_of n.high n.low
+name_bytes n = bytes_held n.held
 
 abbrev pub name_if : Bool → List ℕ → Option (List ℕ)
 name_if true bs = Some bs

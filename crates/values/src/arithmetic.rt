@@ -1,6 +1,5 @@
-ghost use Rattle.std.specs.Prelude.{◌≡◌, neg_ℤ};
-ghost use Rattle.std.specs.Float.Ieee.{neg};
-ghost use Rattle.values.specs.Arithmetic.{outcome_of, exactly, ranged, integers, reals, finite_real, calculated, signed};
+ghost use Rattle.std.specs.Prelude.{◌≡◌};
+ghost use Rattle.values.specs.Arithmetic.{outcome_of, exactly, integers, reals, finite_real, calculated, signed};
 ghost use Rattle.values.specs.Cells.{cell_of};
 
 use crate::kinds::{DataFault, Kind, Operator, Sign};
@@ -10,22 +9,18 @@ use crate::value::Value;
 fn exact(n: Option<i32>) -> Result<Value, DataFault>
     ensures { outcome_of result ≡ exactly n }
 {
-    match n {
-        Some(n) => Ok(Value::integer(n)),
-        None => Err(DataFault::IntegerRange),
-    }
+    n.map(Value::integer).ok_or(DataFault::IntegerRange)
 }
 
 // A real result that has been rounded once, or the fault that it is not finite.
 fn finite(x: f64) -> Result<Value, DataFault>
     ensures { outcome_of result ≡ finite_real x }
 {
-    match Value::real(x) {
-        Some(value) => Ok(value),
-        None => Err(DataFault::NotFinite),
-    }
+    Value::real(x).ok_or(DataFault::NotFinite)
 }
 
+// A trait for both numbers would have to declare the four operations and the test for zero, and
+// each type to implement them, in place of this function and the next.
 fn calculate_integers(operator: Operator, a: i32, b: i32) -> Result<Value, DataFault>
     ensures { outcome_of result ≡ integers operator a b }
 {
@@ -58,20 +53,9 @@ fn calculate_reals(operator: Operator, x: f64, y: f64) -> Result<Value, DataFaul
     }
 }
 
-fn negate_integer(n: i32) -> Result<Value, DataFault>
-    ensures { outcome_of result ≡ ranged (neg_ℤ n) }
-{
-    exact(n.checked_neg())
-}
-
-fn negate_real(x: f64) -> Result<Value, DataFault>
-    ensures { outcome_of result ≡ finite_real (neg x) }
-{
-    finite(-x)
-}
-
 impl Value {
     // The operator on two integers or two reals; null where an operand is null or the kinds differ.
+    #[tactic(auto, unfolding(crate::specs::Arithmetic::calculated))]
     pub fn calculate(self, operator: Operator, right: Value) -> Result<Value, DataFault>
         ensures { outcome_of result ≡ calculated operator (cell_of self) (cell_of right) }
     {
@@ -85,13 +69,14 @@ impl Value {
     }
 
     // A sign before a value: plus leaves it, and minus turns an integer or a real round.
+    #[tactic(auto, unfolding(crate::specs::Arithmetic::signed))]
     pub fn with_sign(self, sign: Sign) -> Result<Value, DataFault>
         ensures { outcome_of result ≡ signed sign (cell_of self) }
     {
         match (sign, self.kind) {
             (Sign::Plus, _) => Ok(self),
-            (Sign::Minus, Kind::Integer) => negate_integer(self.integer),
-            (Sign::Minus, Kind::Real) => negate_real(self.real),
+            (Sign::Minus, Kind::Integer) => exact(self.integer.checked_neg()),
+            (Sign::Minus, Kind::Real) => finite(-self.real),
             (Sign::Minus, _) => Ok(Value::null()),
         }
     }

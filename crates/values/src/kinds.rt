@@ -1,4 +1,5 @@
-// What a value is: nothing, an integer, a real or a text.
+// What a value is: nothing, an integer, a real or a text. `Option<ColumnType>` would say the same,
+// and the matches on pairs of kinds would be no plainer for it.
 #[derive(Clone, Copy, Debug, PartialEq, Eq)]
 pub enum Kind {
     Null,
@@ -50,8 +51,9 @@ pub enum Comparison {
     GreaterOrEqual,
 }
 
-// The truth of a condition, in rising order.
-#[derive(Clone, Copy, Debug, PartialEq, Eq)]
+// The truth of a condition, in rising order. It is no `Option<bool>`, in whose order an unknown
+// comes before false.
+#[derive(Clone, Copy, Debug, PartialEq, Eq, PartialOrd, Ord)]
 pub enum Truth {
     False,
     Unknown,

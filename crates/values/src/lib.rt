@@ -2,13 +2,16 @@
 // tables and columns.
 #![tactic(auto)]
 
+pub mod area;
 mod arithmetic;
-mod bytes;
+pub mod bytes;
 mod cells;
 mod comparing;
+pub mod keyword;
 pub mod kinds;
 mod make;
 pub mod name;
-pub mod naming;
+mod naming;
+pub mod sixteen;
 mod types;
 pub mod value;

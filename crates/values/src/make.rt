@@ -6,9 +6,13 @@ ghost use Rattle.values.specs.Codes.{without_negative_zero};
 ghost use Rattle.values.specs.Kept.{plain_real};
 ghost use Rattle.values.specs.Made.{real_cell, text_cell};
 
-use crate::bytes::{all_printable, fill, number};
+use crate::bytes::{all_printable, fill};
 use crate::kinds::Kind;
+use crate::sixteen::SixteenBytes;
 use crate::value::Value;
+
+// What a value that is no text holds in place of one.
+const NO_TEXT: SixteenBytes = SixteenBytes { high: 0, low: 0 };
 
 // Zero for negative zero, and any other real as it is.
 pub(crate) fn without_negative_zero(x: f64) -> f64
@@ -18,6 +22,7 @@ pub(crate) fn without_negative_zero(x: f64) -> f64
     if x == 0.0 { 0.0 } else { x }
 }
 
+// The constructors have names, since a `From` would not say which kind of value is made.
 impl Value {
     pub fn null() -> Value
         ensures { cell_of result ≡ Cell.null }
@@ -26,8 +31,7 @@ impl Value {
             kind: Kind::Null,
             integer: 0,
             real: 0.0,
-            high: 0,
-            low: 0,
+            text: NO_TEXT,
         }
     }
 
@@ -38,8 +42,7 @@ impl Value {
             kind: Kind::Integer,
             integer,
             real: 0.0,
-            high: 0,
-            low: 0,
+            text: NO_TEXT,
         }
     }
 
@@ -55,8 +58,7 @@ impl Value {
             kind: Kind::Real,
             integer: 0,
             real,
-            high: 0,
-            low: 0,
+            text: NO_TEXT,
         })
     }
 
@@ -69,14 +71,11 @@ impl Value {
         if !all_printable(bytes) {
             return None;
         }
-        let high = number(&filled[0..8]);
-        let low = number(&filled[8..16]);
         Some(Value {
             kind: Kind::Text,
             integer: 0,
             real: 0.0,
-            high,
-            low,
+            text: filled.into(),
         })
     }
 }

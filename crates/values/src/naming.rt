@@ -1,34 +1,18 @@
-ghost use Rattle.std.specs.Prelude.{◌≡◌, ◌&&◌, nat_eq};
+ghost use Rattle.std.specs.Prelude.{◌≡◌, ◌≤◌, ◌==◌, Some, length, not};
+ghost use Rattle.std.specs.Fmt.{styled_text};
+ghost use Rattle.std.specs.List.{prefix_len};
 ghost use Rattle.std.specs.Option.{option_map};
 ghost use Rattle.std.specs.Str.{bytes_eq};
 ghost use Rattle.values.specs.Laws.{NamesAreWords};
-ghost use Rattle.values.specs.Named.{name_bytes, name_from};
-ghost use Rattle.values.specs.Names.{among, keywords, lawful_name, name_tail, name_byte};
+ghost use Rattle.values.specs.Named.{name_bytes, name_from, trimmed};
+ghost use Rattle.values.specs.Names.{lawful_name, name_tail, name_byte};
 ghost use Rattle.std.specs.Cmp.{on_equiv, on_per, partial_equiv_from_equiv};
 ghost use Rattle.std.specs.Cmp.Lexicographic.{nat_list_eq_equiv};
 
-use crate::bytes::{all_are, fill, number};
+use crate::bytes::fill;
+use crate::keyword::Keyword;
 use crate::name::Name;
-
-// Whether there are the same bytes in both.
-pub fn same(a: &[u8], b: &[u8]) -> bool
-    ensures { result ≡ bytes_eq a.now b.now }
-{
-    a == b
-}
-
-fn is_keyword(bytes: &[u8]) -> bool
-    ensures { result ≡ among bytes.now keywords }
-{
-    same(bytes, b"select          ")
-        || same(bytes, b"from            ")
-        || same(bytes, b"where           ")
-        || same(bytes, b"union           ")
-        || same(bytes, b"intersection    ")
-        || same(bytes, b"and             ")
-        || same(bytes, b"or              ")
-        || same(bytes, b"not             ")
-}
+use std::fmt;
 
 // Small letters, digits and the underscore.
 fn is_name_byte(b: u8) -> bool
@@ -38,68 +22,83 @@ fn is_name_byte(b: u8) -> bool
 }
 
 // Such bytes, and then only spaces.
+#[tactic(auto, using(crate::proofs::NameTails::tail_skipped))]
 fn is_name_tail(bytes: &[u8]) -> bool
     ensures { result ≡ name_tail bytes.now }
 {
-    for i in 0..bytes.len() {
-        if !is_name_byte(bytes[i]) {
-            return all_are(b' ', &bytes[i..]);
-        }
-    }
-    true
+    bytes
+        .iter()
+        .skip_while(|b| is_name_byte(**b))
+        .all(|b| *b == b' ')
 }
 
-fn is_lawful(bytes: &[u8]) -> bool
-    ensures { result ≡ lawful_name bytes.now }
+fn is_lawful(bytes: [u8; 16]) -> bool
+    ensures { result ≡ lawful_name bytes }
 {
-    if bytes.len() != 16 || !bytes[0].is_ascii_lowercase() {
-        return false;
-    }
-    is_name_tail(&bytes[1..16]) && !is_keyword(bytes)
+    bytes[0].is_ascii_lowercase() && is_name_tail(&bytes[1..]) && Keyword::of(&bytes).is_none()
 }
 
 impl Name {
-    // The name in up to sixteen bytes, filled with spaces; none where they are no lawful name.
+    // The name in up to sixteen bytes, filled with spaces; none where they are no lawful name. What
+    // it means that there is none is for each caller to say, so it is an `Option` and no `TryFrom`.
     pub fn new(bytes: &[u8]) -> Option<Name>
         ensures answer { option_map name_bytes result ≡ name_from bytes.now }
         ensures rule { NamesAreWords }
     {
         let filled = fill(bytes)?;
-        if !is_lawful(&filled) {
+        if !is_lawful(filled) {
             return None;
         }
-        let high = number(&filled[0..8]);
-        let low = number(&filled[8..16]);
-        Some(Name { high, low })
+        Some(Name {
+            held: filled.into(),
+        })
     }
 
     // The sixteen bytes.
+    #[tactic(auto, unfolding(crate::specs::Named::name_bytes))]
     pub fn to_bytes(self) -> [u8; 16]
         ensures { result ≡ name_bytes self }
     {
-        let [a, b, c, d, e, f, g, h] = self.high.to_be_bytes();
-        let [i, j, k, l, m, n, o, p] = self.low.to_be_bytes();
-        [a, b, c, d, e, f, g, h, i, j, k, l, m, n, o, p]
+        self.held.into()
     }
 }
 
-fn both_same(high: u64, low: u64, other_high: u64, other_low: u64) -> bool
-    ensures { result ≡ (nat_eq high other_high && nat_eq low other_low) }
-{
-    high == other_high && low == other_low
-}
-
-// Two names are the same where their bytes are, which the numbers tell.
+// The equality is written out, so that it can be stated of the bytes, as those who compare names
+// need it: a derived one is stated of the two numbers that hold them.
 impl PartialEq for Name {
     ghost eq = { λ a b. bytes_eq (name_bytes a) (name_bytes b) };
 
     ghost laws = { on_per name_bytes (partial_equiv_from_equiv nat_list_eq_equiv) };
 
     fn eq(&self, other: &Name) -> bool {
-        both_same(self.high, self.low, other.high, other.low)
+        self.to_bytes() == other.to_bytes()
     }
 }
 
 impl Eq for Name {
     ghost laws = { on_equiv name_bytes nat_list_eq_equiv };
+}
+
+// How many of the bytes come before the filling.
+fn length_unfilled(bytes: &[u8]) -> usize
+    ensures answer { result ≡ prefix_len (λ b. not (b == 32)) bytes.now }
+    ensures within { result ≤ length bytes.now }
+{
+    bytes.iter().take_while(|b| **b != b' ').count()
+}
+
+// The name without its filling.
+impl fmt::Display for Name {
+    ghost output = { λ n. Some (trimmed (name_bytes n)) };
+
+    ghost styled_output = { λ n s. Some (styled_text s (trimmed (name_bytes n))) };
+
+    fn fmt<W: fmt::Write>(&self, f: &mut fmt::Formatter<W>) -> fmt::Result {
+        let bytes = self.to_bytes();
+        // A match and no `map_err` with `?`, behind which it was not proved which text is written.
+        match str::from_utf8(&bytes[..length_unfilled(&bytes)]) {
+            Ok(text) => f.pad(text),
+            Err(_) => Err(fmt::Error),
+        }
+    }
 }

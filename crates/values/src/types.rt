@@ -1,7 +1,14 @@
-ghost use Rattle.std.specs.Prelude.{◌≡◌};
-ghost use Rattle.values.specs.Codes.{byte_fits, column_of, command_of, type_byte, type_of};
+ghost use Rattle.std.specs.Prelude.{◌≡◌, Some};
+ghost use Rattle.std.specs.Result.{result_ok};
+ghost use Rattle.values.specs.Codes.{byte_fits, column_of, command_of, type_byte, type_of, type_word};
+ghost use Rattle.std.specs.Fmt.{styled_text};
 
 use crate::kinds::{ColumnType, Kind};
+use std::fmt;
+
+// A byte stands for no type of columns.
+#[derive(Clone, Copy, Debug, PartialEq, Eq)]
+pub struct UnknownType;
 
 impl Kind {
     // The type of the columns that hold this kind; none for nulls, which any column holds.
@@ -17,44 +24,60 @@ impl Kind {
     }
 }
 
-impl ColumnType {
-    // The type that a byte stands for; none for any other byte.
-    pub fn from_byte(b: u8) -> Option<ColumnType>
-        ensures { result ≡ type_of b }
-    {
+impl TryFrom<u8> for ColumnType {
+    type Error = UnknownType;
+
+    ghost try_from_gives = { λ b r. result_ok r ≡ type_of b };
+
+    fn try_from(b: u8) -> Result<ColumnType, UnknownType> {
         match b {
-            1 => Some(ColumnType::Integer),
-            2 => Some(ColumnType::Real),
-            3 => Some(ColumnType::Text),
-            _ => None,
+            1 => Ok(ColumnType::Integer),
+            2 => Ok(ColumnType::Real),
+            3 => Ok(ColumnType::Text),
+            _ => Err(UnknownType),
         }
     }
+}
 
-    pub fn byte(self) -> u8
-        ensures { result ≡ type_byte self }
-    {
-        match self {
+impl From<ColumnType> for u8 {
+    ghost from_gives = { λ t b. b ≡ type_byte t };
+
+    fn from(column: ColumnType) -> u8 {
+        match column {
             ColumnType::Integer => 1,
             ColumnType::Real => 2,
             ColumnType::Text => 3,
         }
     }
+}
 
+impl ColumnType {
     // The command of the cells of this type.
     fn command(self) -> u8
         ensures { result ≡ command_of self }
     {
-        match self {
-            ColumnType::Integer => 0x11,
-            ColumnType::Real => 0x12,
-            ColumnType::Text => 0x13,
-        }
+        0x10 + u8::from(self)
     }
 
     // Whether a cell with this command may stand in the column: a null's, or one of its type.
+    #[tactic(auto, unfolding(crate::specs::Codes::byte_fits))]
     pub fn accepts_command(self, b: u8) -> bool
         ensures { result ≡ byte_fits self b }
     {
         b == 0x10 || b == self.command()
+    }
+}
+
+impl fmt::Display for ColumnType {
+    ghost output = { λ t. Some (type_word t) };
+
+    ghost styled_output = { λ t s. Some (styled_text s (type_word t)) };
+
+    fn fmt<W: fmt::Write>(&self, f: &mut fmt::Formatter<W>) -> fmt::Result {
+        match self {
+            ColumnType::Integer => f.pad("integer"),
+            ColumnType::Real => f.pad("real"),
+            ColumnType::Text => f.pad("text"),
+        }
     }
 }

@@ -5,6 +5,7 @@
 #[cfg(test)]
 mod tests {
     use std::test::Fail;
+    use values::area::WrongLength;
     use values::kinds::{ColumnType, Comparison, DataFault, Operator, Sign, Truth};
     use values::name::Name;
     use values::value::Value;
@@ -13,24 +14,12 @@ mod tests {
     #[derive(Clone, Copy, Debug)]
     struct Refused;
 
-    fn bytes_of(value: Value) -> [u8; 17] {
-        let mut out = [0xff; 17];
-        let _ = value.write(&mut out);
-        out
-    }
-
     fn outcome(res: Result<Value, DataFault>) -> Result<[u8; 17], DataFault> {
-        match res {
-            Ok(value) => Ok(bytes_of(value)),
-            Err(fault) => Err(fault),
-        }
+        Ok(res?.to_bytes())
     }
 
     fn integer_outcome(res: Result<i32, DataFault>) -> Result<[u8; 17], DataFault> {
-        match res {
-            Ok(n) => Ok(bytes_of(Value::integer(n))),
-            Err(fault) => Err(fault),
-        }
+        Ok(Value::integer(res?).to_bytes())
     }
 
     #[test]
@@ -64,7 +53,7 @@ mod tests {
             outcome(least.with_sign(Sign::Minus)),
             Err(DataFault::IntegerRange)
         );
-        assert_eq!(rt; outcome(least.with_sign(Sign::Plus)), Ok(bytes_of(least)));
+        assert_eq!(rt; outcome(least.with_sign(Sign::Plus)), Ok(least.to_bytes()));
         assert_eq!(rt;
             outcome(Value::integer(5).with_sign(Sign::Minus)),
             integer_outcome(Ok(-5))
@@ -75,7 +64,7 @@ mod tests {
     fn nulls_come_before_faults(rt: HostRuntime) {
         let null = Value::null();
         let zero = Value::integer(0);
-        let nothing = Ok(bytes_of(null));
+        let nothing = Ok(null.to_bytes());
         assert_eq!(rt; outcome(null.calculate(Operator::Divide, zero)), nothing);
         assert_eq!(rt; outcome(zero.calculate(Operator::Divide, null)), nothing);
         assert_eq!(rt; outcome(null.with_sign(Sign::Minus)), nothing);
@@ -97,7 +86,7 @@ mod tests {
             let right = Value::real(y).ok_or(Refused)?;
             let got = outcome(left.calculate(operator, right));
             match wanted {
-                Ok(z) => assert_eq!(rt; got, Ok(bytes_of(Value::real(z).ok_or(Refused)?))),
+                Ok(z) => assert_eq!(rt; got, Ok(Value::real(z).ok_or(Refused)?.to_bytes())),
                 Err(fault) => assert_eq!(rt; got, Err(fault)),
             }
         }
@@ -105,8 +94,8 @@ mod tests {
         assert!(rt; Value::real(f64::NAN).is_none());
         let zero = Value::real(0.0).ok_or(Refused)?;
         let minus_zero = Value::real(-0.0).ok_or(Refused)?;
-        assert_eq!(rt; bytes_of(minus_zero), bytes_of(zero));
-        assert_eq!(rt; outcome(zero.with_sign(Sign::Minus)), Ok(bytes_of(zero)));
+        assert_eq!(rt; minus_zero.to_bytes(), zero.to_bytes());
+        assert_eq!(rt; outcome(zero.with_sign(Sign::Minus)), Ok(zero.to_bytes()));
         Ok(())
     }
 
@@ -162,9 +151,9 @@ mod tests {
             assert_eq!(rt; p.and(q), both);
             assert_eq!(rt; p.or(q), either);
         }
-        assert_eq!(rt; f.not(), t);
-        assert_eq!(rt; u.not(), u);
-        assert_eq!(rt; t.not(), f);
+        assert_eq!(rt; !f, t);
+        assert_eq!(rt; !u, u);
+        assert_eq!(rt; !t, f);
     }
 
     #[test]
@@ -181,15 +170,18 @@ mod tests {
             (text, *b"\x13it's ~          "),
         ];
         for (value, wanted) in cases {
-            assert_eq!(rt; bytes_of(value), wanted);
+            assert_eq!(rt; value.to_bytes(), wanted);
+            let mut area = [0xff; 17];
+            assert_eq!(rt; value.write(&mut area), Ok(()));
+            assert_eq!(rt; area, wanted);
             let again = Value::read(&wanted).ok_or(Refused)?;
-            assert_eq!(rt; bytes_of(again), wanted);
+            assert_eq!(rt; again.to_bytes(), wanted);
         }
         let mut short = [7; 16];
-        assert!(rt; !text.write(&mut short));
+        assert_eq!(rt; text.write(&mut short), Err(WrongLength));
         assert_eq!(rt; short, [7; 16]);
         let zero = Value::read(b"\x12\x80\0\0\0\0\0\0\0\0\0\0\0\0\0\0\0").ok_or(Refused)?;
-        assert_eq!(rt; bytes_of(zero), *b"\x12\0\0\0\0\0\0\0\0\0\0\0\0\0\0\0\0");
+        assert_eq!(rt; zero.to_bytes(), *b"\x12\0\0\0\0\0\0\0\0\0\0\0\0\0\0\0\0");
         Ok(())
     }
 
@@ -232,16 +224,16 @@ mod tests {
         let real = Value::real(1.5).ok_or(Refused)?;
         let held = [Value::integer(1), real, text];
         for (i, byte) in [1, 2, 3].iter().enumerate() {
-            let column = ColumnType::from_byte(*byte).ok_or(Refused)?;
-            assert_eq!(rt; column.byte(), *byte);
+            let column = ColumnType::try_from(*byte)?;
+            assert_eq!(rt; u8::from(column), *byte);
             assert!(rt; Value::null().fits(column) && column.accepts_command(0x10));
             for (k, value) in held.iter().enumerate() {
                 assert_eq!(rt; value.fits(column), i == k);
-                assert_eq!(rt; column.accepts_command(bytes_of(*value)[0]), i == k);
+                assert_eq!(rt; column.accepts_command(value.to_bytes()[0]), i == k);
             }
         }
-        assert!(rt; ColumnType::from_byte(0).is_none());
-        assert!(rt; ColumnType::from_byte(4).is_none());
+        assert!(rt; ColumnType::try_from(0).is_err());
+        assert!(rt; ColumnType::try_from(4).is_err());
         Ok(())
     }
 
@@ -267,6 +259,8 @@ mod tests {
         assert!(rt; !is_name(b"a b"));
         let name = Name::new(b"price").ok_or(Refused)?;
         assert_eq!(rt; name.to_bytes(), *b"price           ");
+        let printed = format!(in rt.alloc(); "{name}: {}", ColumnType::Integer)?;
+        assert_eq!(rt; printed.as_str(), "price: integer");
         assert!(rt; name == Name::new(b"price  ").ok_or(Refused)?);
         assert!(rt; name != Name::new(b"prices").ok_or(Refused)?);
         assert!(rt; name != Name::new(b"price_of_a_litre").ok_or(Refused)?);

@@ -1,9 +1,6 @@
 use Rattle.std.proofs.Common.{[], ◌∙◌}
 use Rattle.batches.specs.Commands.{table_of}
 use Rattle.batches.specs.Written.{table_bytes}
-use Rattle.std.proofs.lemmas.Result.{err_from_is_err_and}
-use Rattle.values.proofs.Codec.{decoded_encoded}
-use Rattle.batches.proofs.WrittenBack.{written_loads}
 use Rattle.batches.proofs.Appended.{all_written, one_more, tables_written}
 use Rattle.batches.proofs.writing.write_tables.Goals as goal
 
@@ -11,17 +8,8 @@ pub loop-table-preserved : goal.loop-table-preserved
 loop-table-preserved c =
     one_more (λ d. table_bytes (table_of d)) c.args.tables.now [] c.loop-table.table-index c.table-item.result c.loop-table-test.true c.table-item.is c.loop-table.invariant c.in_ok-whole_table.ensures
 
-pub returns-in_err-whole_table : goal.returns-in_err-whole_table
-returns-in_err-whole_table c =
-    let p = err_from_is_err_and c.from_residual.result c.from_residual.ensures.1 in
-    record { batch = rw p.1 tt; loads = written_loads decoded_encoded }
-
-pub returns : goal.returns
-returns c =
-    record {
-      batch =
-          c.finish.ensures.bytes ∙
-          (all_written (λ d. table_bytes (table_of d)) c.args.tables.now [] c.loop-table.table-index c.loop-table-test.false c.loop-table.invariant ∙
-          tables_written c.args.tables.now);
-      loads = c.finish.ensures.loads;
-    }
+pub returns-clause-batch : goal.returns-clause-batch
+returns-clause-batch c =
+    c.finish.ensures.bytes ∙
+    (all_written (λ d. table_bytes (table_of d)) c.args.tables.now [] c.loop-table.table-index c.loop-table-test.false c.loop-table.invariant ∙
+    tables_written c.args.tables.now)

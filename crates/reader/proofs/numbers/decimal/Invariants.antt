@@ -1,6 +1,7 @@
-use Rattle.reader.specs.Words.{digits_in}
-use Rattle.reader.proofs.Digits.{SoFar}
+use Rattle.std.proofs.Common.{◌≡◌, take, filter}
+use Rattle.values.specs.Names.{decimal_digit}
+use Rattle.reader.specs.Words.{written}
 use Rattle.reader.proofs.numbers.decimal.Given as goal
 
-abbrev pub invariant-loop-i : goal.invariant-loop-i
-invariant-loop-i l = SoFar (digits_in l.text l.at l.i) l.count l.number
+abbrev pub invariant-loop-b : goal.invariant-loop-b
+invariant-loop-b l = l.number ≡ written (filter decimal_digit (take l.b-index l.bytes))

@@ -1,11 +1,20 @@
-use Rattle.std.proofs.Common.{ℕ, ◌-◌, List, set, sym, ◌∙◌, ap₂, arith}
-use Rattle.reader.proofs.Letters.{letters_more, letters_none}
+use Rattle.std.proofs.Common.{leb, length, map, Some, sym, ap, ◌∙◌, rules}
+use Rattle.std.specs.Char.{to_ascii_lowercase}
+use Rattle.values.specs.Names.{filled_if}
+use Rattle.values.proofs.Filled.{filled_if_none, filled_if_some}
+use Rattle.reader.proofs.Letters.{filled_small, mapped}
 use Rattle.reader.proofs.scanning.small_letters.Goals as goal
 
-pub loop-i-init : goal.loop-i-init
-loop-i-init c = sym (letters_none c.args.text.now c.args.at)
+pub returns-in_err-letters : goal.returns-in_err-letters
+returns-in_err-letters c =
+    let bs = c.args.bytes.now in
+    c.from_residual.ensures ∙
+    sym (ap (λ t. filled_if t (map to_ascii_lowercase bs)) (filled_if_none (leb (length bs) 16) bs c.in_err-letters.ensures))
 
-pub loop-i-preserved : goal.loop-i-preserved
-loop-i-preserved c =
-    ap₂ (λ (w : List ℕ) (b : ℕ). set w (c.loop-i.i - c.args.at) b) c.loop-i.invariant c.to_ascii_lowercase.ensures.value ∙
-    letters_more c.args.text.now c.args.at c.loop-i.i c.loop-i.auto.i (omega (arith, c.requires)) (omega (arith, c.requires))
+pub returns : goal.returns
+returns c =
+    let bs = c.args.bytes.now in
+    let same = filled_if_some (leb (length bs) 16) bs c.in_ok-letters.letters c.in_ok-letters.ensures in
+    let small = mapped to_ascii_lowercase c.in_ok-letters.letters c.map.result 16 (search rules) c.map.ensures.items (λ p q x y k. search rules) in
+    ap Some (small ∙ ap (map to_ascii_lowercase) same.1 ∙ filled_small bs) ∙
+    sym (ap (λ t. filled_if t (map to_ascii_lowercase bs)) same.0)

@@ -1,19 +1,15 @@
-use Rattle.std.proofs.Common.{sym, ap, ◌∙◌}
-use Rattle.std.proofs.lemmas.List.{take_rest}
-use Rattle.values.specs.Bytes.{spaces}
-use Rattle.values.proofs.NameTails.{loop_more, loop_ends, loop_done}
+use Rattle.std.proofs.Common.{rules, eqb, ◌∙◌}
+use borrow.Author.Tests.{tests}
+use Rattle.std.proofs.lemmas.Iterator.{YieldsList-from_slice}
+use Rattle.std.proofs.lemmas.Iterator.Adapters.{YieldsList-from_skip_while}
+use Rattle.std.proofs.lemmas.Iterator.Search.{all_from_yields_List}
+use Rattle.values.specs.Names.{name_byte}
+use Rattle.values.proofs.NameTails.{tail_skipped}
 use Rattle.values.proofs.naming.is_name_tail.Goals as goal
 
-pub returns-then-not-is_name_byte : goal.returns-then-not-is_name_byte
-returns-then-not-is_name_byte c =
-    let bs = c.args.bytes.now in
-    let i = c.loop-i.i in
-    c.all_are.ensures ∙
-    (ap spaces (take_rest bs i) ∙ loop_ends bs i c.loop-i-test.true c.loop-i.invariant (sym c.if-not-is_name_byte.ensures))
-
-pub loop-i-preserved : goal.loop-i-preserved
-loop-i-preserved c =
-    loop_more c.args.bytes.now c.loop-i.i c.loop-i-test.true c.loop-i.invariant (sym c.if-not-is_name_byte.ensures)
-
 pub returns : goal.returns
-returns c = loop_done c.args.bytes.now c.loop-i.i c.loop-i-test.false c.loop-i.invariant
+returns c =
+    all_from_yields_List (eqb 32) _ _ _ c.all.ensures.ran
+    (YieldsList-from_skip_while _ _ _ name_byte _ (λ x b q k. search (rules, tests)) (YieldsList-from_slice c.args.bytes.now cc) c.skip_while.ensures.closure c.skip_while.ensures.done_skipping)
+    (λ x b q k. search (rules, tests)) ∙
+    tail_skipped c.args.bytes.now

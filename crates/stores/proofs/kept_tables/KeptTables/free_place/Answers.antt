@@ -1,19 +1,13 @@
-use Rattle.std.proofs.Common.{refl}
-use Rattle.stores.specs.Places.{first_place, is_free}
-use Rattle.stores.proofs.KeptFound.{free_held, kept_found, kept_nowhere, kept_on}
+use Rattle.std.proofs.Common.{rules, tests, ◌∙◌}
+use Rattle.std.proofs.lemmas.Iterator.{YieldsList-from_slice}
+use Rattle.std.proofs.lemmas.Iterator.Search.{position_from_yields_List}
+use Rattle.std.specs.Option.{option_map}
+use Rattle.stores.specs.Kept.{kept_as}
+use Rattle.stores.specs.Places.{is_free}
+use Rattle.stores.proofs.KeptFound.{first_position, free_held}
 use Rattle.stores.proofs.kept_tables.KeptTables.free_place.Goals as goal
 
-pub loop-place-init : goal.loop-place-init
-unfolding first_place
-loop-place-init c = refl
-
-pub returns-then-is_none : goal.returns-then-is_none
-returns-then-is_none c =
-    kept_found c.args.self.now is_free c.loop-place.place c.index-self-place.result _ c.loop-place-test.true refl (free_held _ _ c.if-is_none.ensures) c.loop-place.invariant
-
-pub loop-place-preserved : goal.loop-place-preserved
-loop-place-preserved c =
-    kept_on c.args.self.now is_free c.loop-place.place c.index-self-place.result _ c.loop-place-test.true refl (free_held _ _ c.if-is_none.ensures) c.loop-place.invariant
-
 pub returns : goal.returns
-returns c = kept_nowhere c.args.self.now is_free c.loop-place.place c.loop-place-test.false c.loop-place.invariant
+returns c =
+    position_from_yields_List (λ o. is_free (option_map kept_as o)) _ _ c.position.result c.position.ensures.ran (YieldsList-from_slice c.args.self.now.places cc) (λ x b q k. search (rules, tests, free_held)) ∙
+    first_position is_free c.args.self.now.places

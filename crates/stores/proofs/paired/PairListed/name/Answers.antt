@@ -1,28 +1,19 @@
-use Rattle.std.proofs.Common.{ℕ, ◌-◌, is_some, filter, sym, ap, ◌∙◌, arith}
-use Rattle.stores.specs.Meaning.{name_told}
-use Rattle.stores.specs.Paired.{untold}
-use Rattle.stores.proofs.NamesInOrder.{name_past, name_within, pair_first, pair_second}
+use Rattle.std.proofs.Common.{rules, tests, ◌∙◌, not, is_some}
+use Rattle.std.proofs.lemmas.Iterator.Consumers.{YieldsList-from_chain, YieldsList-from_filter, YieldsList-from_first, YieldsList-at, nth_from_yields_List}
+use Rattle.values.specs.Named.{name_bytes}
+use Rattle.stores.specs.Meaning.{lookup}
+use Rattle.stores.specs.Names.{names_in, names_left}
+use Rattle.stores.proofs.NamesInOrder.{pair_names, untold_found}
 use Rattle.stores.proofs.paired.PairListed.name.Goals as goal
-
-pub returns-in-Some : goal.returns-in-Some
-returns-in-Some g c =
-    let ts = g.A.Store.told c.args.self.now.first in
-    let us = g.B.Store.told c.args.self.now.second in
-    c.in-Some.ensures ∙ sym (pair_first ts us c.args.place (name_within ts c.args.place (sym (ap is_some c.in-Some.ensures))))
-
-pub tables_up_to-tables-requires : goal.tables_up_to-tables-requires
-tables_up_to-tables-requires g c =
-    name_past (g.A.Store.told c.args.self.now.first) c.args.place (sym (ap is_some c.in_default.ensures))
-
-pub overflow_sub-place : goal.overflow_sub-place
-overflow_sub-place g c =
-    let past = name_past (g.A.Store.told c.args.self.now.first) c.args.place (sym (ap is_some c.in_default.ensures)) in
-    omega (arith, c.tables_up_to-tables.ensures)
 
 pub returns : goal.returns
 returns g c =
-    let ts = g.A.Store.told c.args.self.now.first in
-    let us = g.B.Store.told c.args.self.now.second in
-    c.untold_name.ensures ∙
-    (ap (λ (k : ℕ). name_told (filter (untold ts) us) (c.args.place - k)) c.tables_up_to-tables.ensures ∙
-    sym (pair_second ts us c.args.place (name_past ts c.args.place (sym (ap is_some c.in_default.ensures)))))
+    let s = c.args.self.now in
+    let ts = g.A.Store.told s.first in
+    let us = g.B.Store.told s.second in
+    nth_from_yields_List c.nth.result c.nth.new.self c.args.place c.nth.ensures.ran (
+    YieldsList-from_chain (YieldsList-at c.chain.ensures.first (YieldsList-from_first name_bytes (names_left g.A.Store.told) (names_in ts) c.new-own.ensures)) (
+    YieldsList-at c.chain.ensures.second (YieldsList-from_filter _ (λ n. not (is_some (lookup ts n))) (YieldsList-at c.filter-others.ensures.source (YieldsList-from_first name_bytes (names_left g.B.Store.told) (names_in us) c.new.ensures)) c.filter-others.ensures.closure (λ x b q k. search (rules, tests, untold_found ts (g.A.Store.number s.first) (g.A.Store.stands s.first) (g.met.A.Store.named s.first) (g.met.A.Store.known s.first))))
+    ) c.chain.ensures.first_done c.chain.ensures.second_done
+    ) ∙
+    pair_names ts us c.args.place (g.met.B.Store.lawful s.second).distinct c.ranges.place.fits

@@ -3,10 +3,9 @@ use Rattle.std.proofs.lemmas.Bool.{leb-false}
 use Rattle.std.specs.Option.{option_map}
 use Rattle.values.specs.Named.{name_bytes, name_if}
 use Rattle.values.specs.Names.{filled, lawful_name}
-use Rattle.values.proofs.Filled.{filled_if_none, filled_if_some, text_held}
+use Rattle.values.proofs.Filled.{filled_if_none, filled_if_some}
 use Rattle.values.proofs.NameLaws.{unlawful_long}
 use Rattle.values.proofs.NameWords.{names_are_words}
-use Rattle.values.proofs.Operands.{bytes_typed}
 use Rattle.values.proofs.name.Name.new.Goals as goal
 
 pub returns-in_err-filled : goal.returns-in_err-filled
@@ -21,30 +20,24 @@ returns-in_err-filled c =
 pub returns-then-not-is_lawful : goal.returns-then-not-is_lawful
 returns-then-not-is_lawful c =
     let bs = c.args.bytes.now in
-    let ds = c.in_ok-filled.filled in
-    let same = filled_if_some (leb (length bs) 16) bs ds c.in_ok-filled.ensures in
+    let same = filled_if_some (leb (length bs) 16) bs c.in_ok-filled.filled c.in_ok-filled.ensures in
     record {
       answer = sym (ap (λ (t : Bool). name_if t (filled bs)) (ap lawful_name (sym same.1) ∙ sym c.if-not-is_lawful.ensures));
       rule = names_are_words;
     }
 
 pub invariant_of-result : goal.invariant_of-result
-invariant_of-result c =
-    let bs = c.args.bytes.now in
-    let ds = c.in_ok-filled.filled in
-    let held = text_held bs ds c.number-high.result c.number-low.result c.in_ok-filled.ensures (bytes_typed bs c.type_inv.bytes) c.number-high.ensures c.number-low.ensures in
-    let same = filled_if_some (leb (length bs) 16) bs ds c.in_ok-filled.ensures in
-    record { lawful = ap lawful_name (held.1 ∙ sym same.1) ∙ sym c.if-not-is_lawful.ensures }
+invariant_of-result c = record { lawful = ap lawful_name c.into.ensures ∙ sym c.if-not-is_lawful.ensures }
 
 pub returns : goal.returns
 unfolding name_bytes
 returns c =
     let bs = c.args.bytes.now in
-    let ds = c.in_ok-filled.filled in
-    let held = text_held bs ds c.number-high.result c.number-low.result c.in_ok-filled.ensures (bytes_typed bs c.type_inv.bytes) c.number-high.ensures c.number-low.ensures in
-    let same = filled_if_some (leb (length bs) 16) bs ds c.in_ok-filled.ensures in
-    let lawful : lawful_name (filled bs) ≡ lawful_name ds = ap lawful_name (sym same.1) in
+    let same = filled_if_some (leb (length bs) 16) bs c.in_ok-filled.filled c.in_ok-filled.ensures in
+    let lawful : lawful_name (filled bs) ≡ lawful_name c.in_ok-filled.filled = ap lawful_name (sym same.1) in
     record {
-      answer = ap (λ (cs : List ℕ). Some cs) held.1 ∙ sym (ap (λ (t : Bool). name_if t (filled bs)) (lawful ∙ sym c.if-not-is_lawful.ensures));
+      answer =
+          ap (λ (cs : List ℕ). Some cs) (c.into.ensures ∙ same.1) ∙
+          sym (ap (λ (t : Bool). name_if t (filled bs)) (lawful ∙ sym c.if-not-is_lawful.ensures));
       rule = names_are_words;
     }

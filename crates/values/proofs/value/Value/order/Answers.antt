@@ -1,44 +1,36 @@
 use Rattle.std.proofs.Common.{◌≡◌, Some, sym, ap, ◌∙◌, ap₂, rules}
+use Rattle.values.specs.Cells.{Cell, cell_by, cell_of}
 use Rattle.values.specs.Comparing.{order_of}
-use Rattle.values.specs.Cells.{cell_of, cell_by}
-use Rattle.values.specs.Comparing.{by_bytes}
-use Rattle.values.specs.Kept.{text_of}
 use Rattle.values.specs.declared.kinds.Kind.{Kind}
-use Rattle.values.specs.declared.kinds.Kind.TheVariants.{Text}
+use Rattle.values.specs.declared.kinds.Kind.TheVariants.{Real, Text}
 use Rattle.values.specs.declared.value.Value.{Value}
+use Rattle.values.proofs.LawfulCells.{real_not_nan}
+use Rattle.values.proofs.Operands.{cell_at}
+use Rattle.values.proofs.RealOrder.{reals_in_order}
+use Rattle.values.proofs.SixteenHeld.{held_in_order}
 use Rattle.values.proofs.value.Value.order.Goals as goal
 
-texts_order : (v w : Value) → v.kind ≡ Text → w.kind ≡ Text → order_of (cell_of v) (cell_of w) ≡ Some (by_bytes (text_of v.high v.low) (text_of w.high w.low))
-unfolding order_of
-texts_order v w p q =
-    ap₂ (λ (k l : Kind). order_of (cell_by k v.integer v.real v.high v.low) (cell_by l w.integer w.real w.high w.low)) p q
-
-pub returns-in-Integer-Integer : goal.returns-in-Integer-Integer
-unfolding order_of
-returns-in-Integer-Integer c = search rules
+cells_ordered :
+    (s t : Value) (j k : Kind) →
+    s.kind ≡ j →
+    t.kind ≡ k →
+    order_of (cell_of s) (cell_of t) ≡ order_of (cell_by j s.integer s.real s.text) (cell_by k t.integer t.real t.text)
+cells_ordered s t j k p q = ap₂ (λ (x y : Cell). order_of x y) (cell_at s j p) (cell_at t k q)
 
 pub returns-in-Real-Real : goal.returns-in-Real-Real
 unfolding order_of
-returns-in-Real-Real c = search rules
+returns-in-Real-Real c =
+    let s = c.args.self in
+    let t = c.args.other in
+    c.partial_cmp.ensures ∙
+    (reals_in_order s.real t.real (real_not_nan s c.in-Real-Real.is-0) (real_not_nan t c.in-Real-Real.is-1) ∙
+    sym (cells_ordered s t Real Real c.in-Real-Real.is-0 c.in-Real-Real.is-1))
 
 pub returns-in-Text-Text : goal.returns-in-Text-Text
 unfolding order_of
 returns-in-Text-Text c =
-    ap Some c.order_of_texts.ensures ∙
-    sym (texts_order c.args.self c.args.other c.in-Text-Text.is-0 c.in-Text-Text.is-1)
-
-pub returns-in_default : goal.returns-in_default
-unfolding order_of
-returns-in_default c = search rules
-
-pub returns-in_default-2 : goal.returns-in_default-2
-unfolding order_of
-returns-in_default-2 c = search rules
-
-pub returns-in_default-3 : goal.returns-in_default-3
-unfolding order_of
-returns-in_default-3 c = search rules
-
-pub returns-in_default-4 : goal.returns-in_default-4
-unfolding order_of
-returns-in_default-4 c = search rules
+    let s = c.args.self in
+    let t = c.args.other in
+    let e = held_in_order s.text t.text (search rules) (search rules) (search rules) (search rules) in
+    ap Some (c.cmp-in-Text-Text.ensures ∙ e) ∙
+    sym (cells_ordered s t Text Text c.in-Text-Text.is-0 c.in-Text-Text.is-1)
