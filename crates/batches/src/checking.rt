@@ -195,7 +195,8 @@ pub fn check(bytes: &[u8]) -> Result<Catalog, BatchFault>
         return Err(BatchFault { place: LONGEST });
     }
     let mut progress = Progress::start();
-    // No iterator goes over the commands, since each has a width of its own.
+    // Each command has a width of its own. An iterator over them would be no plainer: it would have
+    // to carry this progress and the refusal.
     while progress.pos < bytes.len() {
         progress = Checker { bytes, progress }.step()?;
     }

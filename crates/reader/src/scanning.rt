@@ -101,8 +101,8 @@ impl<'a> WordStart<'a> {
         Ok(self.until(self.at + 1, Word::Symbol(symbol)))
     }
 
-    // The word that begins here. Its first byte says of which kind it is: a match on the character,
-    // since the kinds are ranges of letters and digits.
+    // The word that begins here. Its first byte says of which kind it is, in a match on the
+    // character, as the project asks for it: the kinds are ranges of letters and digits.
     fn word(self) -> Result<Scanned, ReaderFault>
         ensures { scan_of result ≡ word_at self.entry.text.now self.entry.at }
     {

@@ -45,26 +45,9 @@ fn keyword(
     Ok(scanned.end)
 }
 
-fn symbol(
-    rt: &impl Abort,
-    text: &[u8],
-    from: usize,
-    wanted: Symbol,
-    end: usize,
-) -> Result<(), Fail> {
-    let scanned = found(rt, text, from, Seen::Symbol(wanted))?;
-    assert_eq!(rt; scanned.end, end);
-    Ok(())
-}
-
-fn name(
-    rt: &impl Abort,
-    text: &[u8],
-    from: usize,
-    wanted: [u8; 16],
-    end: usize,
-) -> Result<(), Fail> {
-    let scanned = found(rt, text, from, Seen::Name(wanted))?;
+// The next word is this one, and it ends here.
+fn word(rt: &impl Abort, text: &[u8], from: usize, wanted: Seen, end: usize) -> Result<(), Fail> {
+    let scanned = found(rt, text, from, wanted)?;
     assert_eq!(rt; scanned.end, end);
     Ok(())
 }
@@ -108,10 +91,16 @@ fn keywords_and_names(rt: HostRuntime) -> Result<(), Fail> {
     let _ = keyword(&rt, b"and", 0, Keyword::And, 0)?;
     let _ = keyword(&rt, b"OR", 0, Keyword::Or, 0)?;
     let _ = keyword(&rt, b"not", 0, Keyword::Not, 0)?;
-    name(&rt, b"selects", 0, *b"selects         ", 7)?;
-    name(&rt, b"no_t", 0, *b"no_t            ", 4)?;
-    name(&rt, b"A1_b ", 0, *b"a1_b            ", 4)?;
-    name(&rt, b"abcdefghijklmnoP", 0, *b"abcdefghijklmnop", 16)?;
+    word(&rt, b"selects", 0, Seen::Name(*b"selects         "), 7)?;
+    word(&rt, b"no_t", 0, Seen::Name(*b"no_t            "), 4)?;
+    word(&rt, b"A1_b ", 0, Seen::Name(*b"a1_b            "), 4)?;
+    word(
+        &rt,
+        b"abcdefghijklmnoP",
+        0,
+        Seen::Name(*b"abcdefghijklmnop"),
+        16,
+    )?;
     let long = b" abcdefghijklmnopq";
     refused(&rt, long, 0, ReaderFault::WordTooLong { place: 1 });
     refused(&rt, b"_a", 0, ReaderFault::Byte { place: 0 });
@@ -120,22 +109,22 @@ fn keywords_and_names(rt: HostRuntime) -> Result<(), Fail> {
 
 #[test]
 fn the_longer_symbol_is_taken(rt: HostRuntime) -> Result<(), Fail> {
-    symbol(&rt, b"<=", 0, Symbol::LessOrEqual, 2)?;
-    symbol(&rt, b"<>", 0, Symbol::NotEqual, 2)?;
-    symbol(&rt, b">=", 0, Symbol::GreaterOrEqual, 2)?;
-    symbol(&rt, b"< =", 0, Symbol::Less, 1)?;
-    symbol(&rt, b"< =", 1, Symbol::Equal, 3)?;
-    symbol(&rt, b"=<", 0, Symbol::Equal, 1)?;
-    symbol(&rt, b">", 0, Symbol::Greater, 1)?;
-    symbol(&rt, b"<", 0, Symbol::Less, 1)?;
-    symbol(&rt, b",", 0, Symbol::Comma, 1)?;
-    symbol(&rt, b".5", 0, Symbol::Point, 1)?;
-    symbol(&rt, b"(", 0, Symbol::Open, 1)?;
-    symbol(&rt, b")", 0, Symbol::Close, 1)?;
-    symbol(&rt, b"+", 0, Symbol::Plus, 1)?;
-    symbol(&rt, b"--", 0, Symbol::Minus, 1)?;
-    symbol(&rt, b"*", 0, Symbol::Star, 1)?;
-    symbol(&rt, b"/", 0, Symbol::Slash, 1)
+    word(&rt, b"<=", 0, Seen::Symbol(Symbol::LessOrEqual), 2)?;
+    word(&rt, b"<>", 0, Seen::Symbol(Symbol::NotEqual), 2)?;
+    word(&rt, b">=", 0, Seen::Symbol(Symbol::GreaterOrEqual), 2)?;
+    word(&rt, b"< =", 0, Seen::Symbol(Symbol::Less), 1)?;
+    word(&rt, b"< =", 1, Seen::Symbol(Symbol::Equal), 3)?;
+    word(&rt, b"=<", 0, Seen::Symbol(Symbol::Equal), 1)?;
+    word(&rt, b">", 0, Seen::Symbol(Symbol::Greater), 1)?;
+    word(&rt, b"<", 0, Seen::Symbol(Symbol::Less), 1)?;
+    word(&rt, b",", 0, Seen::Symbol(Symbol::Comma), 1)?;
+    word(&rt, b".5", 0, Seen::Symbol(Symbol::Point), 1)?;
+    word(&rt, b"(", 0, Seen::Symbol(Symbol::Open), 1)?;
+    word(&rt, b")", 0, Seen::Symbol(Symbol::Close), 1)?;
+    word(&rt, b"+", 0, Seen::Symbol(Symbol::Plus), 1)?;
+    word(&rt, b"--", 0, Seen::Symbol(Symbol::Minus), 1)?;
+    word(&rt, b"*", 0, Seen::Symbol(Symbol::Star), 1)?;
+    word(&rt, b"/", 0, Seen::Symbol(Symbol::Slash), 1)
 }
 
 #[test]

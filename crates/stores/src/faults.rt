@@ -71,7 +71,8 @@ pub trait Fault {
     fn layer(self) -> Layer
         ensures { layer_named result ≡ (refusal self).layer };
 
-    // The number under which the refusal is known. It is a number, since it is printed.
+    // The number under which the refusal is known. The project fixes these numbers, and they are
+    // what is printed (docs/REFUSALS.md).
     fn number(self) -> u32
         ensures { result ≡ (refusal self).code };
 

@@ -42,10 +42,8 @@ impl Value {
     pub fn compare(self, comparison: Comparison, other: Value) -> Truth
         ensures { result ≡ compared comparison (cell_of self) (cell_of other) }
     {
-        match self.order(other) {
-            None => Truth::Unknown,
-            Some(order) => comparison.accepts(order).into(),
-        }
+        self.order(other)
+            .map_or(Truth::Unknown, |order| comparison.accepts(order).into())
     }
 }
 

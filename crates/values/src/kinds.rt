@@ -1,5 +1,5 @@
-// What a value is: nothing, an integer, a real or a text. `Option<ColumnType>` would say the same,
-// and the matches on pairs of kinds would be no plainer for it.
+// What a value is: nothing, an integer, a real or a text. `Option<ColumnType>` would say the same
+// and is no plainer: the pairs that are matched would be of `Some(ColumnType::Integer)` and so on.
 #[derive(Clone, Copy, Debug, PartialEq, Eq)]
 pub enum Kind {
     Null,
