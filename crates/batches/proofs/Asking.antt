@@ -11,6 +11,7 @@ use Rattle.batches.specs.Layouts.{cell_at, cells_at, cells_from, heading_at, hea
 use Rattle.batches.specs.Tables.{Heading, Named}
 use Rattle.batches.specs.declared.layout.Catalog.{Catalog}
 use Rattle.batches.specs.declared.layout.Layout.{Layout}
+use Rattle.batches.proofs.Lookup.{none, few_listed, listed, listed_at}
 
 -- a list made from a function of the index
 module _ {X : Type 0} (f : ℕ → X) (n i : ℕ) where
@@ -23,6 +24,14 @@ module _ {X : Type 0} (f : ℕ → X) (n i : ℕ) where
   nth_counted_past h = let l = length-map-range_with_len f 0 n in slice_get_past (map f (range_with_len 0 n)) i (omega arith)
 
 module _ (c : Catalog) (t : ℕ) where
+  pub layout_here : length c.tables ≡ 8 → t < c.count → Some (get_or c.tables t none) ≡ layout_of c t
+  layout_here e h =
+      let l = listed c e in
+      sym (slice_get-get_or (take c.count c.tables) t none (omega arith) ∙ ap Some (listed_at c t h))
+
+  pub layout_past : c.count ≤ t → None ≡ layout_of c t
+  layout_past h = let l = few_listed c in sym (slice_get_past (take c.count c.tables) t (omega arith))
+
   -- the table that lies where the catalog says
   pub told_at : (bs : List ℕ) (o : Option Layout) → o ≡ layout_of c t → slice_get (told_by bs c) t ≡ option_map (table_at bs) o
   told_at bs o e = slice_get-map (table_at bs) (take c.count c.tables) t ∙ ap (option_map (table_at bs)) (sym e)

@@ -90,6 +90,11 @@ Stepped bs c (Ok d) =
     (w : ℕ) × (step_at bs c ≡ goes (state_of bs d) w) × (d.pos ≡ c.pos + 1 + w) × Placed bs d
 Stepped bs c (Err f) = step_at bs c ≡ stops f.place
 
+-- how far the check has come by a step, or its refusal
+abbrev pub come_to : Progress → Result (Unit {0}) BatchFault → Result Progress BatchFault
+come_to d (Ok u) = Ok d
+come_to d (Err f) = Err f
+
 -- what a check's answer says that the batch is read as
 abbrev pub reading_by : List ℕ → Result Catalog BatchFault → Reading
 reading_by bs (Ok c) = tables (told_by bs c)

@@ -1,6 +1,6 @@
 ghost use Rattle.std.specs.Prelude.{◌≡◌, ℕ, ◌<◌, List, length, slice_index};
 ghost use Rattle.batches.specs.declared.checker.Stage.TheVariants.{Between, Columns};
-ghost use Rattle.batches.specs.Checking.{CellByte, InTable, Placed, Stepped, reading_by, state_of};
+ghost use Rattle.batches.specs.Checking.{CellByte, InTable, Placed, Stepped, come_to, reading_by, state_of};
 ghost use Rattle.batches.specs.Reading.{close, reading, start};
 ghost use Rattle.batches.specs.Theorems.{OneReading, ReadsExactly, RefusedThere, TablesDescribed};
 
@@ -40,10 +40,11 @@ impl Progress {
 impl Checker<'_> {
     // An end of the table in progress: there are columns, and no row is begun.
     #[tactic(auto, using(crate::proofs::Ends::rows_few))]
-    fn take_end(&self, table: Begun) -> Result<Progress, BatchFault>
-        requires table { InTable table self.now.progress.stage }
-        requires byte { slice_index self.now.bytes.now self.now.progress.pos ≡ 127 }
-        ensures { Stepped self.now.bytes.now self.now.progress result }
+    fn take_end(&mut self, table: Begun) -> Result<(), BatchFault>
+        requires table { InTable table self.old.progress.stage }
+        requires byte { slice_index self.old.bytes.now self.old.progress.pos ≡ 127 }
+        ensures step { Stepped self.old.bytes.now self.old.progress (come_to self.new.progress result) }
+        ensures bytes { self.new.bytes ≡ self.old.bytes }
     {
         let at = self.progress.pos;
         if table.columns == 0 || table.cells != 0 {
@@ -57,18 +58,20 @@ impl Checker<'_> {
             rows: table.rows as u32,
         };
         catalog.count = count + 1;
-        Ok(Progress {
+        self.progress = Progress {
             stage: Stage::Between,
             pos: at + 1,
             catalog,
-        })
+        };
+        Ok(())
     }
 
     // One column more: a lawful name and a type.
-    fn take_column(&self, table: Begun) -> Result<Progress, BatchFault>
-        requires stage { self.now.progress.stage ≡ Columns table }
-        requires byte { slice_index self.now.bytes.now self.now.progress.pos ≡ 2 }
-        ensures { Stepped self.now.bytes.now self.now.progress result }
+    fn take_column(&mut self, table: Begun) -> Result<(), BatchFault>
+        requires stage { self.old.progress.stage ≡ Columns table }
+        requires byte { slice_index self.old.bytes.now self.old.progress.pos ≡ 2 }
+        ensures step { Stepped self.old.bytes.now self.old.progress (come_to self.new.progress result) }
+        ensures bytes { self.new.bytes ≡ self.old.bytes }
     {
         let at = self.progress.pos;
         if table.columns >= 8 {
@@ -82,21 +85,23 @@ impl Checker<'_> {
         if !named || ColumnType::try_from(self.bytes[at + TYPE_OFFSET]).is_err() {
             return Err(BatchFault { place: at });
         }
-        Ok(Progress {
+        self.progress = Progress {
             stage: Stage::Columns(Begun {
                 columns: table.columns + 1,
                 ..table
             }),
             pos: at + COLUMN_WIDTH,
             ..self.progress
-        })
+        };
+        Ok(())
     }
 
     // One cell more, null or of its column's type, which may fill its row.
-    fn take_cell(&self, table: Begun) -> Result<Progress, BatchFault>
-        requires table { InTable table self.now.progress.stage }
-        requires byte { CellByte (slice_index self.now.bytes.now self.now.progress.pos) }
-        ensures { Stepped self.now.bytes.now self.now.progress result }
+    fn take_cell(&mut self, table: Begun) -> Result<(), BatchFault>
+        requires table { InTable table self.old.progress.stage }
+        requires byte { CellByte (slice_index self.old.bytes.now self.old.progress.pos) }
+        ensures step { Stepped self.old.bytes.now self.old.progress (come_to self.new.progress result) }
+        ensures bytes { self.new.bytes ≡ self.old.bytes }
     {
         let at = self.progress.pos;
         if table.cells >= table.columns {
@@ -126,19 +131,21 @@ impl Checker<'_> {
                 ..table
             }
         };
-        Ok(Progress {
+        self.progress = Progress {
             stage: Stage::Cells(table),
             pos: at + CELL_WIDTH,
             ..self.progress
-        })
+        };
+        Ok(())
     }
 
     // A table's command: a lawful name that no table before it has.
     #[tactic(auto, using(crate::proofs::NewTables::ninth_table, crate::proofs::NewTables::table_cut, crate::proofs::Stages::byte_within))]
-    fn take_table(&self) -> Result<Progress, BatchFault>
-        requires stage { self.now.progress.stage ≡ Between }
-        requires byte { slice_index self.now.bytes.now self.now.progress.pos ≡ 1 }
-        ensures { Stepped self.now.bytes.now self.now.progress result }
+    fn take_table(&mut self) -> Result<(), BatchFault>
+        requires stage { self.old.progress.stage ≡ Between }
+        requires byte { slice_index self.old.bytes.now self.old.progress.pos ≡ 1 }
+        ensures step { Stepped self.old.bytes.now self.old.progress (come_to self.new.progress result) }
+        ensures bytes { self.new.bytes ≡ self.old.bytes }
     {
         let catalog = self.progress.catalog;
         let at = self.progress.pos;
@@ -153,7 +160,7 @@ impl Checker<'_> {
         if catalog.find(self.bytes, name).is_some() {
             return Err(BatchFault { place: at });
         }
-        Ok(Progress {
+        self.progress = Progress {
             stage: Stage::Columns(Begun {
                 at,
                 columns: 0,
@@ -162,14 +169,17 @@ impl Checker<'_> {
             }),
             pos: at + TABLE_WIDTH,
             catalog,
-        })
+        };
+        Ok(())
     }
 
-    // Takes the command at the position, or refuses it at its place.
+    // Takes the command at the position, or refuses it at its place. The progress is changed in
+    // place: it holds the whole catalog, which would be copied for each cell.
     #[tactic(auto, using(crate::proofs::OtherBytes::no_table))]
-    fn step(&self) -> Result<Progress, BatchFault>
-        requires within { self.now.progress.pos < length self.now.bytes.now }
-        ensures { Stepped self.now.bytes.now self.now.progress result }
+    fn step(&mut self) -> Result<(), BatchFault>
+        requires within { self.old.progress.pos < length self.old.bytes.now }
+        ensures step { Stepped self.old.bytes.now self.old.progress (come_to self.new.progress result) }
+        ensures bytes { self.new.bytes ≡ self.old.bytes }
     {
         let place = self.progress.pos;
         // The project fixes this form: what may stand here is one match on the stage and the byte.
@@ -194,11 +204,12 @@ pub fn check(bytes: &[u8]) -> Result<Catalog, BatchFault>
     if bytes.len() > LONGEST {
         return Err(BatchFault { place: LONGEST });
     }
-    let mut progress = Progress::start();
+    let progress = Progress::start();
+    let mut checker = Checker { bytes, progress };
     // Each command has a width of its own. An iterator over them would be no plainer: it would have
     // to carry this progress and the refusal.
-    while progress.pos < bytes.len() {
-        progress = Checker { bytes, progress }.step()?;
+    while checker.progress.pos < bytes.len() {
+        checker.step()?;
     }
-    progress.close()
+    checker.progress.close()
 }

@@ -15,6 +15,7 @@ use crate::command_bytes::{CELL_WIDTH, COLUMN_WIDTH, TABLE_WIDTH, TYPE_OFFSET};
 use crate::layout::{Catalog, Layout};
 use values::kinds::ColumnType;
 use values::name::Name;
+use values::naming::same;
 use values::value::Value;
 
 // The type of a column that has been checked, whose byte is 1, 2 or 3.
@@ -57,12 +58,13 @@ pub(crate) fn value_at(bytes: &[u8], offset: usize) -> Option<Value>
 }
 
 impl Layout {
-    // Whether the table has this name.
-    #[tactic(auto, using(crate::proofs::NameParts::same_name))]
-    fn is_named(&self, bytes: &[u8], name: Name) -> bool
-        ensures { result ≡ bytes_eq (name_bytes name) (slice_at bytes.now (self.now.at + 1) 16) }
+    // Whether the table has the name of these bytes. They are compared as they lie there: a name
+    // would have to be read first, and seen to be lawful.
+    #[tactic(auto, using(crate::proofs::Lookup::slice_short))]
+    fn is_named(&self, bytes: &[u8], name: &[u8; 16]) -> bool
+        ensures { result ≡ bytes_eq name.now (slice_at bytes.now (self.now.at + 1) 16) }
     {
-        name_at(bytes, self.at as usize + 1) == Some(name)
+        bytes_at::<16>(bytes, self.at as usize + 1).is_some_and(|own| same(name, own))
     }
 
     // Where a cell's command stands, behind the commands of its table and columns.
@@ -175,7 +177,8 @@ impl Catalog {
     pub fn find(&self, bytes: &[u8], name: Name) -> Option<usize>
         ensures { result ≡ place_of (name_bytes name) (told_by bytes.now self.now) }
     {
+        let name = name.to_bytes();
         let mut layouts = self.layouts().iter();
-        layouts.position(|layout| layout.is_named(bytes, name))
+        layouts.position(|layout| layout.is_named(bytes, &name))
     }
 }

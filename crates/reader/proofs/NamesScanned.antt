@@ -19,7 +19,7 @@ use Rattle.values.specs.Names.{among, filled, filled_if, keyword_words, keywords
 use Rattle.reader.specs.Classes.{begins_name, in_word, run_end}
 use Rattle.reader.proofs.Runs.{run_each}
 
-begins_letter : (b : ℕ) → begins_name b ≡ true → letter (to_ascii_lowercase b) ≡ true
+pub begins_letter : (b : ℕ) → begins_name b ≡ true → letter (to_ascii_lowercase b) ≡ true
 begins_letter b h = grind (arith, nat_tests)
 
 in-word : (b : ℕ) → in_word b ≡ true → name_byte (to_ascii_lowercase b) ≡ true

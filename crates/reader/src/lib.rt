@@ -1,7 +1,7 @@
 // The reader: from the text of a query to its tree.
 #![tactic(auto)]
 
-mod numbers;
+pub mod numbers;
 pub mod scanning;
 mod start;
 pub mod word;

@@ -14,8 +14,9 @@ use values::value::Value;
 fn small_letters(bytes: &[u8]) -> Option<[u8; 16]>
     ensures { result ≡ filled_if (nat_le (length bytes.now) 16) (map to_ascii_lowercase bytes.now) }
 {
-    let letters = fill(bytes)?;
-    Some(letters.map(|b| b.to_ascii_lowercase()))
+    let mut letters = fill(bytes)?;
+    letters.make_ascii_lowercase();
+    Some(letters)
 }
 
 // A symbol of two bytes, where one comes first. The patterns need two bytes, so at a text's last byte

@@ -1,6 +1,6 @@
 -- What is answered of two tables taken together. Assumes nothing.
-use Rattle.std.proofs.Common.{◌≡◌, ℕ, zero, suc, ◌+◌, ◌-◌, ◌<◌, ◌≤◌, Bool, true, false, cond, leb, List, [], ◌∷◌, ◌++◌, length, is_some, Some, None, Option, sym, refl, ap, ◌∙◌, arith, length-append}
-use Rattle.std.proofs.lemmas.Bool.{both_ways}
+use Rattle.std.proofs.Common.{◌≡◌, ℕ, zero, suc, ◌+◌, ◌-◌, ◌<◌, ◌≤◌, Bool, true, false, cond, leb, List, [], ◌∷◌, ◌++◌, length, is_some, Some, None, Option, sym, refl, ap, ◌∙◌, ap₂, arith, length-append}
+use Rattle.std.proofs.lemmas.Bool.{both_ways, le-leb, lt-leb}
 use Rattle.std.specs.List.{slice_get}
 use Rattle.std.specs.Bool.{then_some}
 use Rattle.values.specs.Cells.{Cell}
@@ -14,6 +14,14 @@ pub uncounted : (o : Option ℕ) → join_count o None ≡ None
 unfolding join_count
 uncounted None = refl
 uncounted (Some n) = refl
+
+pub counted_over : (a b : Option ℕ) (m n : ℕ) → a ≡ Some m → b ≡ Some n → most_rows < m + n → join_count a b ≡ None
+unfolding join_count
+counted_over a b m n p q l = ap₂ join_count p q ∙ ap (λ (t : Bool). then_some t (m + n)) (lt-leb (m + n) most_rows l)
+
+pub counted_within : (a b : Option ℕ) (m n : ℕ) → a ≡ Some m → b ≡ Some n → m + n ≤ most_rows → join_count a b ≡ Some (m + n)
+unfolding join_count
+counted_within a b m n p q l = ap₂ join_count p q ∙ ap (λ (t : Bool). then_some t (m + n)) (le-leb (m + n) most_rows l)
 
 -- the columns are the first table's
 pub column_joined : (x y : Option Table) (i : ℕ) → column_of (join_tables x y) i ≡ column_of x i

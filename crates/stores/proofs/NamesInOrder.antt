@@ -5,6 +5,7 @@ use lib.ListN.{length-map}
 use Rattle.std.proofs.lemmas.List.{drop_all, map-append}
 use Rattle.std.proofs.lemmas.List.Sums.{count_by-le-length, length-filter}
 use Rattle.std.proofs.lemmas.Option.{slice_get-map}
+use Rattle.std.proofs.lemmas.Bool.{both_ways}
 use Rattle.std.specs.Bool.{⊤}
 use Rattle.std.specs.Iterator.{MakesProgress, YieldsFirstBy, item_count}
 use Rattle.std.specs.List.{cons_option, slice_get}
@@ -17,6 +18,7 @@ use Rattle.stores.specs.Names.{names_from, names_in}
 use Rattle.stores.specs.Paired.{beside, paired, untold}
 use Rattle.values.specs.Named.{name_bytes}
 use Rattle.values.specs.declared.name.Name.{Name}
+use Rattle.stores.proofs.JoinedRows.{nth_first, nth_second}
 
 -- what is left of a list's first m elements from a place on
 front : {X : Type 0} (m p : ℕ) (xs : List X) → p < m → drop p (take m xs) ≡ cons_option (slice_get xs p) (drop (suc p) (take m xs))
@@ -145,6 +147,42 @@ cut_first zero k xs ys zs l e = absurd (omega arith)
 cut_first (suc m) k [] ys zs l e = subst (λ j. slice_get ys j ≡ slice_get zs j) (omega arith) (e (omega arith))
 cut_first (suc m) zero (x ∷ xs) ys zs l e = refl
 cut_first (suc m) (suc k) (x ∷ xs) ys zs l e = cut_first m k xs ys zs (omega arith) (λ n. subst (λ j. slice_get ys j ≡ slice_get zs j) (omega arith) (e (omega arith)))
+
+pub mapped_some : {X Y : Type 0} (f : X → Y) (o : Option X) → is_some (option_map f o) ≡ is_some o
+mapped_some f None = refl
+mapped_some f (Some x) = refl
+
+-- there is a name at each place below the number of tables, and at no other
+pub name_within : (ts : Told) (i : ℕ) → is_some (name_told ts i) ≡ true → i < length ts
+unfolding name_told
+name_within [] i e = absurd (both_ways false refl e)
+name_within (t ∷ ts) zero e = omega arith
+name_within (t ∷ ts) (suc i) e = let l = name_within ts i e in omega arith
+
+pub name_past : (ts : Told) (i : ℕ) → is_some (name_told ts i) ≡ false → length ts ≤ i
+unfolding name_told
+name_past [] i e = omega arith
+name_past (t ∷ ts) zero e = absurd (both_ways true e refl)
+name_past (t ∷ ts) (suc i) e = let l = name_past ts i e in omega arith
+
+-- the names of a pair: first those of the first store
+name_map : (us ts : Told) (i : ℕ) → name_told (map (beside us) ts) i ≡ name_told ts i
+unfolding name_told
+name_map us [] i = refl
+name_map us (t ∷ ts) zero = refl
+name_map us (t ∷ ts) (suc i) = name_map us ts i
+
+pub pair_first : (ts us : Told) (place : ℕ) → place < length ts → name_told (paired ts us) place ≡ name_told ts place
+unfolding paired name_told
+pair_first ts us place l =
+    ap (option_map (λ t. t.name)) (nth_first (map (beside us) ts) (filter (untold ts) us) place (omega (arith, length-map ts (beside us)))) ∙ name_map us ts place
+
+-- then those of the second that the first does not tell
+pub pair_second : (ts us : Told) (place : ℕ) → length ts ≤ place → name_told (paired ts us) place ≡ name_told (filter (untold ts) us) (place - length ts)
+unfolding paired name_told
+pair_second ts us place l =
+    let k = length-map ts (beside us) in
+    ap (option_map (λ t. t.name)) (nth_second (map (beside us) ts) (filter (untold ts) us) place (omega arith) ∙ ap (λ (n : ℕ). slice_get (filter (untold ts) us) (place - n)) k)
 
 -- the names of a pair: those of the first store, and then those of the second that the first does not tell
 pub pair_names : (ts us : Told) (k : ℕ) → Distinct us → k < 18446744073709551616 → slice_get (names_in ts ++ filter (λ n. not (is_some (lookup ts n))) (names_in us)) k ≡ name_told (paired ts us) k

@@ -186,9 +186,13 @@ impl<A: Store, B: Store> Store for Pair<A, B> {
     }
 }
 
-// Each name asked for passes over the first store's names, of which there are few.
+// A name of the first store's is asked for once. Those of the second come behind them, so for one of
+// these all of the first's are passed over.
 impl<A: Listed, B: Listed> Listed for Pair<A, B> {
     fn name(&self, place: usize) -> Option<Name> {
+        if let Some(name) = self.first.name(place) {
+            return Some(name);
+        }
         let own = Names::new(&self.first);
         let others = Names::new(&self.second).filter(|name| self.first.find(*name).is_none());
         own.chain(others).nth(place)

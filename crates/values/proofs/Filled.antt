@@ -1,11 +1,12 @@
 -- Texts filled with spaces to sixteen bytes. Assumes nothing.
-use Rattle.std.proofs.Common.{◌≡◌, ℕ, zero, suc, ◌-◌, Bool, true, false, eqb, leb, List, [], ◌∷◌, length, replicate, Some, None, sym, refl, ◌∙◌, ap₂, arith}
-use Rattle.std.proofs.lemmas.List.{append-nil}
+use Rattle.std.proofs.Common.{◌≡◌, ℕ, zero, suc, ◌-◌, ◌<◌, ◌≤◌, Bool, true, false, eqb, leb, List, [], ◌∷◌, length, replicate, Some, None, sym, refl, ◌∙◌, ap₂, arith, lit<}
+use Rattle.std.proofs.ByRecursion.{All-append}
+use Rattle.std.proofs.lemmas.List.{append-nil, length-append, length-replicate}
 use Rattle.std.proofs.lemmas.List.Folds.{list_all-append}
 use Rattle.std.proofs.lemmas.Bool.{and_parts, and_from, eqb-true, leb-true}
 use Rattle.values.specs.Bytes.{each, printable}
 use Rattle.values.specs.Names.{filled, filled_if}
-use Rattle.values.proofs.Numbers.{Bytes}
+use Rattle.values.proofs.Numbers.{Bytes, bytes_replicate}
 
 pub bytes_printable : (bs : List ℕ) → each printable bs ≡ true → Bytes bs
 bytes_printable [] h = tt
@@ -29,6 +30,12 @@ pub filled_printable : (bs : List ℕ) → each printable bs ≡ true → each p
 filled_printable bs h =
     list_all-append printable bs (replicate (16 - length bs) 32) ∙
     and_from _ _ h (each_replicate printable (16 - length bs) 32 refl)
+
+pub length_filled : (bs : List ℕ) → length bs ≤ 16 → length (filled bs) ≡ 16
+length_filled bs h = simp (length-append, length-replicate) (omega arith)
+
+pub bytes_filled : (bs : List ℕ) → Bytes bs → Bytes (filled bs)
+bytes_filled bs t = All-append (λ b. b < 256) bs (replicate (16 - length bs) 32) t (bytes_replicate (16 - length bs) 32 (lit< tt))
 
 -- sixteen bytes are filled already
 pub filled_whole : (bs : List ℕ) → length bs ≡ 16 → filled bs ≡ bs

@@ -1,5 +1,5 @@
 -- The cell of a value is lawful. Assumes nothing.
-use Rattle.std.proofs.Common.{◌≡◌, true, T, ℤ, refl, subst, w32, SFits}
+use Rattle.std.proofs.Common.{◌≡◌, ℕ, true, T, length, ℤ, refl, subst, w32, SFits}
 use lib.Ieee
 use lib.Ieee.{Float, binary64}
 use lib.Ieee.Bits.{is_true}
@@ -13,6 +13,10 @@ use Rattle.values.specs.declared.sixteen.SixteenBytes.{SixteenBytes}
 use Rattle.values.specs.declared.value.Value.{Value}
 use Rattle.values.proofs.Codec.{in_range_sfits}
 use Rattle.values.proofs.Reals.{finite_not_nan, plain_finite}
+
+pub length_text_of : (high low : ℕ) → length (text_of high low) ≡ 16
+unfolding text_of
+length_text_of high low = refl
 
 lawful_by_kind :
     (k : Kind) (n : ℤ) (x : Float) (s : SixteenBytes) →

@@ -10,5 +10,6 @@ pub mod Numbers
 pub mod Operands
 pub mod RealOrder
 pub mod Reals
+pub mod SameNames
 pub mod SixteenHeld
 pub mod Texts

@@ -6,7 +6,7 @@ use Rattle.values.specs.Bytes.{spaces}
 use Rattle.values.specs.Named.{trimmed}
 use Rattle.values.specs.Names.{name_byte, name_tail}
 
-not_space : (b : ℕ) → name_byte b ≡ true → eqb 32 b ≡ false
+pub not_space : (b : ℕ) → name_byte b ≡ true → eqb 32 b ≡ false
 not_space b h = grind (arith, nat_tests)
 
 or_none : (t : Bool) → (t || false) ≡ t

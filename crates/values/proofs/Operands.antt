@@ -1,6 +1,8 @@
 -- Reading a cell's command and operand. Assumes nothing.
-use Rattle.std.proofs.Common.{◌≡◌, ℕ, suc, Ok, Err, Result, ◌/◌, ◌%◌, ◌≤◌, Bool, true, cond, ◌&&◌, List, [], ◌∷◌, ◌++◌, length, get_or, take, drop, Some, None, sym, refl, ap, ◌∙◌, subst, ap₂, arith, w8, Fits}
+use Rattle.std.proofs.Common.{◌≡◌, ℕ, suc, Ok, Err, Result, ◌/◌, ◌%◌, ◌^◌, ◌<◌, ◌≤◌, Bool, true, cond, ◌&&◌, List, [], ◌∷◌, ◌++◌, length, get_or, take, drop, Some, None, sym, refl, ap, ◌∙◌, subst, ap₂, arith, w8, Fits}
 use lib.Ieee.{binary64, of_bits}
+use Rattle.std.proofs.ByRecursion.{All-take}
+use Rattle.std.proofs.lemmas.List.{length-drop, length-take}
 use Rattle.std.proofs.lemmas.Bool.{ne_eqb, eq-eqb, le-leb, le-ltb}
 use Rattle.std.specs.Float.{float_is_finite}
 use Rattle.std.specs.Result.{MatchResult, result_ok}
@@ -11,7 +13,7 @@ use Rattle.values.specs.declared.value.Value.{Value}
 use Rattle.values.specs.Codes.{decoded, operand_cell, real_from, text_from, given, without_negative_zero}
 use Rattle.values.specs.Made.{real_cell, text_cell}
 use Rattle.values.proofs.Filled.{filled_whole}
-use Rattle.values.proofs.Numbers.{Bytes, eight_bytes}
+use Rattle.values.proofs.Numbers.{Bytes, number_of_lt, four_bytes, eight_bytes}
 use Rattle.values.proofs.Reals.{finite_bits}
 
 -- what a slice of bytes holds are bytes
@@ -46,6 +48,14 @@ decoded_by bs os b k e h f =
     ap decoded e ∙
     (ap (λ (t : Bool). cond t (operand_cell b os) None) (eq-eqb (length os) 16 h) ∙ ap (λ (c : ℕ). operand_cell c os) f)
 
+pub operand_length_lem : (bs : List ℕ) → length bs ≡ 17 → length (take 16 (drop 1 bs)) ≡ 16
+operand_length_lem bs h = simp (length-take, length-drop) (omega arith)
+
+pub front_below : (k : ℕ) (bs : List ℕ) → Bytes bs → k ≤ length bs → number_of (take k bs) < 256 ^ k
+front_below k bs t h =
+    let l : length (take k bs) ≡ k = simp length-take (omega arith) in
+    subst (λ n. number_of (take k bs) < 256 ^ n) l (number_of_lt (take k bs) (All-take (λ b. b < 256) k bs t))
+
 pub no_command : (b : ℕ) (bs : List ℕ) → (b ≡ 0x10 → ⊥) → (b ≡ 0x11 → ⊥) → (b ≡ 0x12 → ⊥) → (b ≡ 0x13 → ⊥) → operand_cell b bs ≡ None
 no_command b bs p q r s = rw (ne_eqb b 0x10 p, ne_eqb b 0x11 q, ne_eqb b 0x12 r, ne_eqb b 0x13 s)
 
@@ -67,6 +77,15 @@ pub cell_at : (v : Value) (k : Kind) → v.kind ≡ k → cell_of v ≡ cell_by 
 cell_at v k e = ap (λ (j : Kind). cell_by j v.integer v.real v.text) e
 
 -- the bytes that the array of a number's bytes holds, one by one
+abbrev pub Four : List ℕ → ℕ → Type 0
+Four r n = r ≡ n / 16777216 % 256 ∷ n / 65536 % 256 ∷ n / 256 % 256 ∷ n % 256 ∷ []
+
+abbrev pub four_of : List ℕ → List ℕ → List ℕ
+four_of r zs = get_or r 0 0 ∷ get_or r 1 0 ∷ get_or r 2 0 ∷ get_or r 3 0 ∷ zs
+
+pub four_array : (r : List ℕ) (n : ℕ) (zs : List ℕ) → Four r n → four_of r zs ≡ bytes_of 4 n ++ zs
+four_array r n zs e = ap (λ (q : List ℕ). four_of q zs) e ∙ sym (ap (λ (q : List ℕ). q ++ zs) (four_bytes n))
+
 abbrev pub Eight : List ℕ → ℕ → Type 0
 Eight r n =
     r ≡ n / 72057594037927936 % 256 ∷ n / 281474976710656 % 256 ∷ n / 1099511627776 % 256 ∷ n / 4294967296 % 256 ∷ n / 16777216 % 256 ∷ n / 65536 % 256 ∷ n / 256 % 256 ∷ n % 256 ∷ []

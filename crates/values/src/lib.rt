@@ -11,7 +11,7 @@ pub mod keyword;
 pub mod kinds;
 mod make;
 pub mod name;
-mod naming;
+pub mod naming;
 pub mod sixteen;
 mod types;
 pub mod value;

@@ -3,6 +3,7 @@ ghost use Rattle.std.specs.Fmt.{styled_text};
 ghost use Rattle.std.specs.List.{prefix_len};
 ghost use Rattle.std.specs.Option.{option_map};
 ghost use Rattle.std.specs.Str.{bytes_eq};
+ghost use Rattle.values.specs.Kept.{bytes_held};
 ghost use Rattle.values.specs.Laws.{NamesAreWords};
 ghost use Rattle.values.specs.Named.{name_bytes, name_from, trimmed};
 ghost use Rattle.values.specs.Names.{lawful_name, name_tail, name_byte};
@@ -12,7 +13,15 @@ ghost use Rattle.std.specs.Cmp.Lexicographic.{nat_list_eq_equiv};
 use crate::bytes::fill;
 use crate::keyword::Keyword;
 use crate::name::Name;
+use crate::sixteen::SixteenBytes;
 use std::fmt;
+
+// Whether there are the same bytes in both.
+pub fn same(a: &[u8], b: &[u8]) -> bool
+    ensures { result ≡ bytes_eq a.now b.now }
+{
+    a == b
+}
 
 // Small letters, digits and the underscore.
 fn is_name_byte(b: u8) -> bool
@@ -63,6 +72,13 @@ impl Name {
     }
 }
 
+// Whether the same bytes are held, which the numbers tell.
+fn both_same(own: SixteenBytes, others: SixteenBytes) -> bool
+    ensures { result ≡ bytes_eq (bytes_held own) (bytes_held others) }
+{
+    own == others
+}
+
 // The equality is written out, so that it can be stated of the bytes, as those who compare names
 // need it: a derived one is stated of the two numbers that hold them.
 impl PartialEq for Name {
@@ -71,7 +87,7 @@ impl PartialEq for Name {
     ghost laws = { on_per name_bytes (partial_equiv_from_equiv nat_list_eq_equiv) };
 
     fn eq(&self, other: &Name) -> bool {
-        self.to_bytes() == other.to_bytes()
+        both_same(self.held, other.held)
     }
 }
 

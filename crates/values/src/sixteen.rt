@@ -25,8 +25,9 @@ impl From<SixteenBytes> for [u8; 16] {
     ghost from_gives = { λ s bs. bs ≡ bytes_held s };
 
     fn from(held: SixteenBytes) -> [u8; 16] {
-        let [a, b, c, d, e, f, g, h] = held.high.to_be_bytes();
-        let [i, j, k, l, m, n, o, p] = held.low.to_be_bytes();
-        [a, b, c, d, e, f, g, h, i, j, k, l, m, n, o, p]
+        let mut bytes = [0; 16];
+        bytes[..8].copy_from_slice(&held.high.to_be_bytes());
+        bytes[8..].copy_from_slice(&held.low.to_be_bytes());
+        bytes
     }
 }

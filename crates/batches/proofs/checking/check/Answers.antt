@@ -1,7 +1,7 @@
-use Rattle.std.proofs.Common.{◌≡◌, ℕ, length, drop, ap, ◌∙◌, ap₂}
+use Rattle.std.proofs.Common.{◌≡◌, ℕ, List, Ok, Err, ap, ◌∙◌, subst}
 use Rattle.std.proofs.lemmas.Result.{err_from_is_err_and}
-use Rattle.batches.specs.Checking.{reading_by}
-use Rattle.batches.specs.Reading.{Reading, refused, State, run}
+use Rattle.batches.specs.Checking.{Stepped, reading_by}
+use Rattle.batches.specs.Reading.{Reading, refused}
 use Rattle.batches.specs.Theorems.{OneReading, ReadsExactly, RefusedThere, TablesDescribed}
 use Rattle.batches.specs.declared.layout.BatchFault.{BatchFault}
 use Rattle.batches.proofs.Described.{tables_described}
@@ -18,25 +18,26 @@ ensured e =
 pub returns-then-bytes-gt-LONGEST : goal.returns-then-bytes-gt-LONGEST
 returns-then-bytes-gt-LONGEST c = ensured (reading_long c.args.bytes.now c.if-bytes-gt-LONGEST.true)
 
-pub loop-progress-init : goal.loop-progress-init
-loop-progress-init c =
+pub loop-checker-preserved : goal.loop-checker-preserved
+loop-checker-preserved c =
     let bs = c.args.bytes.now in
-    let h = c.start-progress.ensures bs in
-    (h.0, ap₂ (λ (s : State) (n : ℕ). run (length bs) s n (drop n bs)) h.1 h.2)
+    let k = c.loop-checker.checker in
+    let d = c.step.new.self.progress in
+    let h = subst (λ (xs : List ℕ). Stepped xs k.progress (Ok d)) c.loop-checker.invariant.0 c.in_ok-step.ensures.step in
+    (ap (λ b. b.now) c.in_ok-step.ensures.bytes ∙ c.loop-checker.invariant.0, going_on bs k.progress c.loop-checker-test.true c.loop-checker.invariant.1 d h.0 h.1 h.2)
 
-pub loop-progress-preserved : goal.loop-progress-preserved
-loop-progress-preserved c =
-    let h = c.in_ok-progress.ensures in
-    (h.3, going_on c.args.bytes.now c.loop-progress.progress c.loop-progress-test.true c.loop-progress.invariant.1 c.in_ok-progress.progress h.0 h.1 h.2)
-
-pub returns-in_err-progress : goal.returns-in_err-progress
-returns-in_err-progress c =
+pub returns-in_err-step : goal.returns-in_err-step
+returns-in_err-step c =
+    let bs = c.args.bytes.now in
+    let k = c.loop-checker.checker in
     let p = err_from_is_err_and c.from_residual.result c.from_residual.ensures.1 in
-    ensured (ap (reading_by c.args.bytes.now) p.1 ∙
+    let h = subst (λ (xs : List ℕ). Stepped xs k.progress (Err c.in_err-step.field-0.0)) c.loop-checker.invariant.0 c.in_err-step.ensures.step in
+    ensured (ap (reading_by bs) p.1 ∙
     (ap (λ (f : BatchFault). refused f.place) p.2 ∙
-    (stopped c.args.bytes.now c.loop-progress.progress c.loop-progress-test.true c.loop-progress.invariant.1 _ c.in_err-progress.ensures ∙ reading_run c.args.bytes.now c.if-bytes-gt-LONGEST.false)))
+    (stopped bs k.progress c.loop-checker-test.true c.loop-checker.invariant.1 _ h ∙ reading_run bs c.if-bytes-gt-LONGEST.false)))
 
 pub returns : goal.returns
 returns c =
-    ensured (c.close.ensures c.args.bytes.now ∙
-    (closed c.args.bytes.now c.loop-progress.progress c.loop-progress-test.false c.loop-progress.invariant.1 ∙ reading_run c.args.bytes.now c.if-bytes-gt-LONGEST.false))
+    let bs = c.args.bytes.now in
+    ensured (c.close.ensures bs ∙
+    (closed bs c.loop-checker.checker.progress c.loop-checker-test.false c.loop-checker.invariant.1 ∙ reading_run bs c.if-bytes-gt-LONGEST.false))

@@ -1,10 +1,9 @@
-use Rattle.std.proofs.Common.{◌-◌, length}
-use Rattle.batches.specs.Checking.{Placed}
+use Rattle.std.proofs.Common.{◌≡◌, ◌-◌, length}
 use Rattle.batches.proofs.Runs.{Going}
 use Rattle.batches.proofs.checking.check.Given as goal
 
-abbrev pub invariant-loop-progress : goal.invariant-loop-progress
-invariant-loop-progress l = Placed l.bytes l.progress × Going l.bytes l.progress
+abbrev pub invariant-loop-checker : goal.invariant-loop-checker
+invariant-loop-checker l = (l.checker.bytes.now ≡ l.bytes) × Going l.bytes l.checker.progress
 
-abbrev pub decreases-loop-progress : goal.decreases-loop-progress
-decreases-loop-progress l = length l.bytes - l.progress.pos
+abbrev pub decreases-loop-checker : goal.decreases-loop-checker
+decreases-loop-checker l = length l.bytes - l.checker.progress.pos

@@ -7,17 +7,17 @@ use Rattle.batches.proofs.Stages.{byte_within, told_more}
 use Rattle.batches.proofs.checker.Checker.take_end.Goals as goal
 use Rattle.batches.proofs.checker.Checker.take_end.Goals.{then-table-eq0-via-then-table-eq0, then-table-eq0-via-else-table-eq0+then-table-ne0}
 
-pub returns-then-table-eq0 : goal.returns-then-table-eq0
-returns-then-table-eq0 c =
+pub returns-then-table-eq0-clause-step : goal.returns-then-table-eq0-clause-step
+returns-then-table-eq0-clause-step c =
     end_refused c.args.self.now.bytes.now c.args.self.now.progress c.args.table c.args.self.now.placed c.requires.table c.requires.byte
     (elim c.then-table-eq0.branch [
       | then-table-eq0-via-then-table-eq0 w ↦ inl w.if-table-eq0.true
       | then-table-eq0-via-else-table-eq0+then-table-ne0 w ↦ inr w.if-table-ne0.true
     ])
 
-pub returns : goal.returns
+pub returns-clause-step : goal.returns-clause-step
 unfolding state_of
-returns c =
+returns-clause-step c =
     let bs = c.args.self.now.bytes.now in
     let s = c.args.self.now.progress in
     let e : length s.catalog.tables ≡ 8 = search rules in

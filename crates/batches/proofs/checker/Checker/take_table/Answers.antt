@@ -19,8 +19,8 @@ tested n m ts o r e f g = sym (ap is_some (f ∙ ap (λ (k : List ℕ). place_of
 given : (o : Option Name) (x y : BatchFault) → o ≡ None → ◌≡◌ {A = Result Name BatchFault} (Err x) (ok_or o y) → x ≡ y
 given o x y n e = let f : ◌≡◌ {A = Result Name BatchFault} (Err x) (Err y) = e ∙ ap (λ (q : Option Name). ok_or q y) n in cc
 
-pub returns-in_err-name : goal.returns-in_err-name
-returns-in_err-name c =
+pub returns-in_err-name-clause-step : goal.returns-in_err-name-clause-step
+returns-in_err-name-clause-step c =
     let e : length c.args.self.now.progress.catalog.tables ≡ 8 = search rules in
     let p = err_from_is_err_and c.from_residual.result c.from_residual.ensures.1 in
     let f : p.0 ≡ record { place = c.args.self.now.progress.pos } =
@@ -28,14 +28,14 @@ returns-in_err-name c =
     rw (p.1, f)
     (table_unlawful c.args.self.now.bytes.now c.args.self.now.progress c.requires.stage c.requires.byte (byte_within _ _ c.requires.byte (omega arith)) e c.if-catalog-ge8.false c.if-len-at-lt-TABLE_WIDTH.false (inl (no_name_read _ _ (ap (option_map name_bytes) (sym c.in_err-name.ensures.ok_part) ∙ c.name_at.ensures))))
 
-pub returns-then-is_some : goal.returns-then-is_some
-returns-then-is_some c =
+pub returns-then-is_some-clause-step : goal.returns-then-is_some-clause-step
+returns-then-is_some-clause-step c =
     let e : length c.args.self.now.progress.catalog.tables ≡ 8 = search rules in
     let n = name_read c.in_ok-name.name _ _ (ap (option_map name_bytes) (sym c.in_ok-name.ensures.ok_part) ∙ c.name_at.ensures) in
     table_unlawful c.args.self.now.bytes.now c.args.self.now.progress c.requires.stage c.requires.byte (byte_within _ _ c.requires.byte (omega arith)) e c.if-catalog-ge8.false c.if-len-at-lt-TABLE_WIDTH.false (inr (tested _ _ (told_by c.args.self.now.bytes.now c.args.self.now.progress.catalog) c.find.result true n.1 c.find.ensures (sym c.if-is_some.ensures)))
 
-pub returns : goal.returns
-returns c =
+pub returns-clause-step : goal.returns-clause-step
+returns-clause-step c =
     let e : length c.args.self.now.progress.catalog.tables ≡ 8 = search rules in
     let n = name_read c.in_ok-name.name _ _ (ap (option_map name_bytes) (sym c.in_ok-name.ensures.ok_part) ∙ c.name_at.ensures) in (
       16,

@@ -1,10 +1,16 @@
-use Rattle.std.proofs.Common.{rules, tests, ◌∙◌, not, is_some}
+use Rattle.std.proofs.Common.{rules, tests, sym, ap, ◌∙◌, not, is_some}
 use Rattle.std.proofs.lemmas.Iterator.Consumers.{YieldsList-from_chain, YieldsList-from_filter, YieldsList-from_first, YieldsList-at, nth_from_yields_List}
 use Rattle.values.specs.Named.{name_bytes}
 use Rattle.stores.specs.Meaning.{lookup}
 use Rattle.stores.specs.Names.{names_in, names_left}
-use Rattle.stores.proofs.NamesInOrder.{pair_names, untold_found}
+use Rattle.stores.proofs.NamesInOrder.{name_within, pair_first, pair_names, untold_found}
 use Rattle.stores.proofs.paired.PairListed.name.Goals as goal
+
+pub returns-in-Some : goal.returns-in-Some
+returns-in-Some g c =
+    let ts = g.A.Store.told c.args.self.now.first in
+    let us = g.B.Store.told c.args.self.now.second in
+    c.in-Some.ensures ∙ sym (pair_first ts us c.args.place (name_within ts c.args.place (sym (ap is_some c.in-Some.ensures))))
 
 pub returns : goal.returns
 returns g c =
