@@ -9,7 +9,8 @@ use crate::value::Value;
 fn exact(n: Option<i32>) -> Result<Value, DataFault>
     ensures { outcome_of result ≡ exactly n }
 {
-    n.map(Value::integer).ok_or(DataFault::IntegerRange)
+    let n = n.ok_or(DataFault::IntegerRange)?;
+    Ok(Value::integer(n))
 }
 
 // A real result that has been rounded once, or the fault that it is not finite.
